@@ -1,0 +1,4 @@
+pub mod Options
+pub mod Restricted
+pub mod Consequences
+pub mod Walking

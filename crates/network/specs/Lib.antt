@@ -1,0 +1,4 @@
+pub mod Network
+pub mod Laws
+pub mod Walks
+pub mod Routes

@@ -1,0 +1,30 @@
+// What a traced route is made of, and why there may be none.
+ghost use mathlib.Core.Path.{_≡_};
+ghost use Rattle.network.specs.declared.route_step.RouteError.the-variants.{OutOfMemory};
+use std::alloc::Refused;
+
+// One step of a route: from `node`, by an escape channel of this port, class and rank, to `next`.
+#[derive(Clone, Copy, PartialEq, Eq, Debug)]
+pub struct RouteStep {
+    pub node: usize,
+    pub port: usize,
+    pub class: usize,
+    pub rank: usize,
+    pub next: usize,
+}
+
+// Why a route is not traced: its start or its end is no node, or memory is out.
+#[derive(Clone, Copy, PartialEq, Eq, Debug)]
+pub enum RouteError {
+    NoStart,
+    NoEnd,
+    OutOfMemory,
+}
+
+pub impl<T: Drop> From<Refused<T>> for RouteError as RouteErrorFromRefused {
+    ghost converts = { λ refused r. r ≡ OutOfMemory };
+
+    fn from(_refused: Refused<T>) -> Self {
+        RouteError::OutOfMemory
+    }
+}
