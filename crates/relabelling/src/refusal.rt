@@ -1,0 +1,26 @@
+// Why bytes are no labelling.
+ghost use mathlib.Core.Path.{_≡_};
+ghost use Rattle.relabelling.specs.Refusals.{refusal-number};
+
+#[derive(Clone, Copy, PartialEq, Eq, Debug)]
+pub enum LabellingRefusal {
+    // There are not 2 to 64 bytes, but `count`.
+    Count { count: usize },
+    // The position of `label`, the first of its kind, is not under the number of bytes.
+    Outside { label: usize, position: usize },
+    // Label `second`, the first of its kind, has the position that `first` has already.
+    Repeated { first: usize, second: usize },
+}
+
+impl LabellingRefusal {
+    // The number of the refusal: 13, 14 or 15.
+    pub fn number(&self) -> u8
+        ensures { λ r. ⌜ r ≡ refusal-number (now (self .entry)) ⌝ }
+    {
+        match self {
+            LabellingRefusal::Count { .. } => 13,
+            LabellingRefusal::Outside { .. } => 14,
+            LabellingRefusal::Repeated { .. } => 15,
+        }
+    }
+}
