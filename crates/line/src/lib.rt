@@ -4,6 +4,10 @@ ghost use Rattle.line.specs.Lines.{line, line-sized};
 use network::Hop;
 use network::Routing;
 
+const PORTS: usize = 2;
+
+const CLASSES: usize = 1;
+
 // The line of `size` nodes. A size that is not 2 to 64 makes a line that is unusable.
 #[derive(Clone, Copy, PartialEq, Eq, Debug)]
 pub struct Line {
@@ -27,15 +31,16 @@ pub impl Routing for Line as LineRouting {
     }
 
     fn ports(&self) -> usize {
-        if self.is_usable() { 2 } else { 0 }
+        if self.is_usable() { PORTS } else { 0 }
     }
 
     fn classes(&self) -> usize {
-        if self.is_usable() { 1 } else { 0 }
+        if self.is_usable() { CLASSES } else { 0 }
     }
 
+    // A rank is at most the number of the last node.
     fn ceiling(&self) -> usize {
-        if self.is_usable() { self.size } else { 0 }
+        self.nodes()
     }
 
     // Port 0 leads up and port 1 down, with no link past the ends.
@@ -53,7 +58,11 @@ pub impl Routing for Line as LineRouting {
 
     fn distance(&self, n: usize, d: usize) -> usize {
         let nodes = self.nodes();
-        if n >= nodes || d >= nodes { 0 } else { n.abs_diff(d) }
+        if n >= nodes || d >= nodes {
+            0
+        } else {
+            n.abs_diff(d)
+        }
     }
 
     fn escape(&self, n: usize, d: usize) -> Option<Hop> {
@@ -61,15 +70,23 @@ pub impl Routing for Line as LineRouting {
         if n >= nodes || d >= nodes || n == d {
             None
         } else if n < d {
-            Some(Hop { port: 0, class: 0, next: n + 1 })
+            Some(Hop {
+                port: 0,
+                class: 0,
+                next: n + 1,
+            })
         } else {
-            Some(Hop { port: 1, class: 0, next: n - 1 })
+            Some(Hop {
+                port: 1,
+                class: 0,
+                next: n - 1,
+            })
         }
     }
 
     // Ranks rise in the direction of travel.
     fn rank(&self, n: usize, p: usize, e: usize) -> usize {
-        if n >= self.nodes() || e > 0 {
+        if n >= self.nodes() || e >= CLASSES {
             0
         } else if p == 0 && n + 1 < self.size {
             n

@@ -55,8 +55,8 @@ module _ (one two : Network) (same : Agree one two) (law : Sound one) where
     class-in = omega (arith, l .class-in, same .classes-eq);
     along = same .link-eq n (h .port) a (l .port-in) ∙ l .along;
     less =
-      let m = law .links n (h .port) (h .next) a (l .port-in) (l .along) in
-      ap (λ x. x + 1) (same .distance-eq (h .next) d m b) ∙ l .less ∙ sym (same .distance-eq n d a b);
+        let m = law .links n (h .port) (h .next) a (l .port-in) (l .along) in
+        ap (λ x. x + 1) (same .distance-eq (h .next) d m b) ∙ l .less ∙ sym (same .distance-eq n d a b);
   }
 
   -- a network that agrees with a sound one, wherever it is asked in range, is sound
@@ -68,41 +68,46 @@ module _ (one two : Network) (same : Agree one two) (law : Sound one) where
       apart = λ n d a' b' z. let a = at-node n a' in let b = at-node d b' in law .distances .apart n d a b (sym (same .distance-eq n d a b) ∙ z);
     };
     steps = λ n p m d a' b' c' l.
-      let a = at-node n a' in
-      let b = at-port p b' in
-      let c = at-node d c' in
-      let l' : one .link n p ≡ Some m = sym (same .link-eq n p a b) ∙ l in
-      let f = law .links n p m a b l' in
-      omega (arith, same .distance-eq n d a c, same .distance-eq m d f c, law .steps n p m d a b c l');
+        let a = at-node n a' in
+        let b = at-port p b' in
+        let c = at-node d c' in
+        let l' : one .link n p ≡ Some m = sym (same .link-eq n p a b) ∙ l in
+        let f = law .links n p m a b l' in
+        omega (arith, same .distance-eq n d a c, same .distance-eq m d f c, law .steps n p m d a b c l');
     escapes = λ n d a' b' c.
-      let a = at-node n a' in
-      let b = at-node d b' in
-      subst (Leads two n d) (sym (same .escape-eq n d a b c)) (nearer n d a b (one .escape n d) (law .escapes n d a b c));
+        let a = at-node n a' in
+        let b = at-node d b' in
+        subst (Leads two n d) (sym (same .escape-eq n d a b c)) (nearer n d a b (one .escape n d) (law .escapes n d a b c));
     low = λ n p e m a' b' c' l.
-      let a = at-node n a' in
-      let b = at-port p b' in
-      let c = at-class e c' in
-      let l' : one .link n p ≡ Some m = sym (same .link-eq n p a b) ∙ l in
-      omega (arith, same .ceiling-eq, law .low n p e m a b c l', same .rank-eq n p e m a b c l');
+        let a = at-node n a' in
+        let b = at-port p b' in
+        let c = at-class e c' in
+        let l' : one .link n p ≡ Some m = sym (same .link-eq n p a b) ∙ l in
+        omega (arith, same .ceiling-eq, law .low n p e m a b c l', same .rank-eq n p e m a b c l');
     rises = λ n d h j a' b' c l s m.
-      let a = at-node n a' in
-      let b = at-node d b' in
-      let e : one .escape n d ≡ Some h = sym (same .escape-eq n d a b c) ∙ l in
-      let v = escape-nearer one (law .escapes) n d h a b c e in
-      let f = law .links n (h .port) (h .next) a (v .port-in) (v .along) in
-      let e' : one .escape (h .next) d ≡ Some j = sym (same .escape-eq (h .next) d f b s) ∙ m in
-      let w = escape-nearer one (law .escapes) (h .next) d j f b s e' in
-      omega (arith,
-        same .rank-eq n (h .port) (h .class) (h .next) a (v .port-in) (v .class-in) (v .along),
-        same .rank-eq (h .next) (j .port) (j .class) (j .next) f (w .port-in) (w .class-in) (w .along),
-        law .rises n d h j a b c e s e');
+        let a = at-node n a' in
+        let b = at-node d b' in
+        let e : one .escape n d ≡ Some h = sym (same .escape-eq n d a b c) ∙ l in
+        let v = escape-nearer one (law .escapes) n d h a b c e in
+        let f = law .links n (h .port) (h .next) a (v .port-in) (v .along) in
+        let e' : one .escape (h .next) d ≡ Some j = sym (same .escape-eq (h .next) d f b s) ∙ m in
+        let w = escape-nearer one (law .escapes) (h .next) d j f b s e' in
+        omega (
+          arith,
+          same .rank-eq n (h .port) (h .class) (h .next) a (v .port-in) (v .class-in) (v .along),
+          same .rank-eq (h .next) (j .port) (j .class) (j .next) f (w .port-in) (w .class-in) (w .along),
+          law .rises n d h j a b c e s e',
+        );
     links = λ n p m a' b' l. let a = at-node n a' in let b = at-port p b' in omega (arith, same .nodes-eq, law .links n p m a b (sym (same .link-eq n p a b) ∙ l));
   }
 
 module _ (rule : Network) where
   restrict-agrees : Agree rule (restrict rule)
   restrict-agrees = record {
-    nodes-eq = refl; ports-eq = refl; classes-eq = refl; ceiling-eq = refl;
+    nodes-eq = refl;
+    ports-eq = refl;
+    classes-eq = refl;
+    ceiling-eq = refl;
     link-eq = λ n p a b. rw (lt-ltb n (rule .nodes) a, lt-ltb p (rule .ports) b);
     distance-eq = λ n d a b. rw (lt-ltb n (rule .nodes) a, lt-ltb d (rule .nodes) b);
     escape-eq = λ n d a b c. rw (lt-ltb n (rule .nodes) a, lt-ltb d (rule .nodes) b, ne-eqb n d c);
@@ -120,23 +125,27 @@ module _ (rule : Network) where
 
   restrict-lawful : Sizes rule → Sound rule → Lawful (restrict rule)
   restrict-lawful sizes law =
-    let s = agree-sound rule (restrict rule) restrict-agrees law in
-    record {
-      sizes = λ z. record {
-        nodes-low = sizes .nodes-low; nodes-high = sizes .nodes-high;
-        ports-low = sizes .ports-low; ports-high = sizes .ports-high;
-        classes-low = sizes .classes-low; classes-high = sizes .classes-high;
-        ceiling-low = sizes .ceiling-low; ceiling-high = sizes .ceiling-high;
-      };
-      distances = s .distances;
-      steps = s .steps;
-      escapes = s .escapes;
-      ceilings = λ n p e a b c. grind (arith, tells, law .low n p e, sizes .ceiling-low);
-      rises = s .rises;
-      links = s .links;
-      outside = restrict-outside;
-      empty = λ z. let q = sizes .nodes-low in let r : ⊥ = omega arith in absurd r;
-    }
+      let s = agree-sound rule (restrict rule) restrict-agrees law in
+      record {
+        sizes = λ z. record {
+          nodes-low = sizes .nodes-low;
+          nodes-high = sizes .nodes-high;
+          ports-low = sizes .ports-low;
+          ports-high = sizes .ports-high;
+          classes-low = sizes .classes-low;
+          classes-high = sizes .classes-high;
+          ceiling-low = sizes .ceiling-low;
+          ceiling-high = sizes .ceiling-high;
+        };
+        distances = s .distances;
+        steps = s .steps;
+        escapes = s .escapes;
+        ceilings = λ n p e a b c. grind (arith, tells, law .low n p e, sizes .ceiling-low);
+        rises = s .rises;
+        links = s .links;
+        outside = restrict-outside;
+        empty = λ z. let q = sizes .nodes-low in let r : ⊥ = omega arith in absurd r;
+      }
 
 unusable-lawful : Lawful unusable
 unusable-lawful = record {

@@ -21,8 +21,8 @@ module _ (net : Network) (law : Lawful net) where
   pub walk-long : {n d k : ℕ} → d < net .nodes → Walk net n d k → net .distance n d ≤ k
   walk-long {n} b stay = omega (arith, law .distances .here n b)
   walk-long {n} {d} {k} b (along {m = m} p l w) =
-    let s = link-asked net law n p m l in
-    omega (arith, law .steps n p m d (s .0) (s .1) b l, walk-long b w)
+      let s = link-asked net law n p m l in
+      omega (arith, law .steps n p m d (s .0) (s .1) b l, walk-long b w)
 
   -- following escape ends at the destination,
   ends : {d n m : ℕ} {ss : List RouteStep} → n < net .nodes → d < net .nodes → Following net d n ss m → m ≡ d
@@ -50,21 +50,21 @@ module _ (net : Network) (law : Lawful net) where
 
   pub following-arrives : {d n m : ℕ} {ss : List RouteStep} → n < net .nodes → d < net .nodes → Following net d n ss m → Arrives net n d ss
   following-arrives {d} {n} {m} {ss} a b f =
-    let e = ends a b f in
-    record {
-      following = subst (Following net d n ss) e f;
-      count = count f;
-      rising = rising f;
-      walked = subst (λ x. Walk net n x (length ss)) e (walked f);
-      shortest = λ k w. walk-long b w;
-    }
+      let e = ends a b f in
+      record {
+        following = subst (Following net d n ss) e f;
+        count = count f;
+        rising = rising f;
+        walked = subst (λ x. Walk net n x (length ss)) e (walked f);
+        shortest = λ k w. walk-long b w;
+      }
 
 module _ (net : Network) (d n : ℕ) where
   -- the steps so far and one more
   pub following-more : (m : ℕ) (ts : List RouteStep) (s : RouteStep) → mapped (step-by net n) (net .escape n d) ≡ Some s → Following net d (s .next) ts m → Following net d n (s ∷ ts) m
   following-more m ts s e f =
-    let w = mapped-some (step-by net n) (net .escape n d) s e in
-    subst (λ x. Following net d n (x ∷ ts) m) (sym (w .2)) (hops (w .0) (w .1) (subst (λ (x : RouteStep). Following net d (x .next) ts m) (w .2) f))
+      let w = mapped-some (step-by net n) (net .escape n d) s e in
+      subst (λ x. Following net d n (x ∷ ts) m) (sym (w .2)) (hops (w .0) (w .1) (subst (λ (x : RouteStep). Following net d (x .next) ts m) (w .2) f))
 
   -- and none more
   pub following-none : mapped (step-by net n) (net .escape n d) ≡ None → Following net d n [] n

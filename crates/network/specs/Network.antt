@@ -27,7 +27,10 @@ hop p e m = record { port = p; class = e; next = m }
 -- of no use: no nodes, and none or 0 for an answer
 abbrev pub unusable : Network
 unusable = record {
-  nodes = 0; ports = 0; classes = 0; ceiling = 0;
+  nodes = 0;
+  ports = 0;
+  classes = 0;
+  ceiling = 0;
   link = λ n p. None;
   distance = λ n d. 0;
   escape = λ n d. None;
@@ -38,7 +41,10 @@ unusable = record {
 -- There is no escape from a node to itself, and the rank is 0 where there is no link.
 abbrev pub restrict : Network → Network
 restrict rule = record {
-  nodes = rule .nodes; ports = rule .ports; classes = rule .classes; ceiling = rule .ceiling;
+  nodes = rule .nodes;
+  ports = rule .ports;
+  classes = rule .classes;
+  ceiling = rule .ceiling;
   link = λ n p. cond (ltb n (rule .nodes) && ltb p (rule .ports)) (rule .link n p) None;
   distance = λ n d. cond (ltb n (rule .nodes) && ltb d (rule .nodes)) (rule .distance n d) 0;
   escape = λ n d. cond (ltb n (rule .nodes) && (ltb d (rule .nodes) && not (eqb n d))) (rule .escape n d) None;

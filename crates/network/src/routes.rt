@@ -26,7 +26,12 @@ fn next_step<R: Routing>(routing: &R, node: usize, end: usize) -> Option<RouteSt
 }
 
 // The steps from `start` to `end`, which are nodes.
-fn steps_between<R: Routing>(heap: Global, routing: &R, start: usize, end: usize) -> Result<Vec<RouteStep>, RouteError>
+fn steps_between<R: Routing>(
+    heap: Global,
+    routing: &R,
+    start: usize,
+    end: usize,
+) -> Result<Vec<RouteStep>, RouteError>
     requires { ⌜ start < meaning (now routing) .nodes ⌝ ∗ ⌜ end < meaning (now routing) .nodes ⌝ }
     ensures { λ r. ⌜ Routed (meaning (now (routing .entry))) start end r ⌝ }
 {
@@ -42,7 +47,12 @@ fn steps_between<R: Routing>(heap: Global, routing: &R, start: usize, end: usize
 // The steps that follow escape from `start` until it names no hop. They end at `end`, are as many as the distance,
 // which no walk over the links undercuts, and their ranks rise strictly. A start or an end that is no node, and want of
 // memory, are errors.
-pub fn route<R: Routing>(heap: Global, routing: &R, start: usize, end: usize) -> Result<Vec<RouteStep>, RouteError>
+pub fn route<R: Routing>(
+    heap: Global,
+    routing: &R,
+    start: usize,
+    end: usize,
+) -> Result<Vec<RouteStep>, RouteError>
     ensures { λ r. ⌜ Routed (meaning (now (routing .entry))) start end r ⌝ }
 {
     let nodes = routing.nodes();

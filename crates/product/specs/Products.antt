@@ -32,15 +32,15 @@ product-rule one two = record {
   classes = max (one .classes) (two .classes);
   ceiling = one .ceiling + two .ceiling;
   link = λ n p. cond (ltb p (one .ports))
-    (mapped (λ a. node-at one a (row one n)) (one .link (column one n) p))
-    (mapped (λ b. node-at one (column one n) b) (two .link (row one n) (p - one .ports)));
+      (mapped (λ a. node-at one a (row one n)) (one .link (column one n) p))
+      (mapped (λ b. node-at one (column one n) b) (two .link (row one n) (p - one .ports)));
   distance = λ n d. one .distance (column one n) (column one d) + two .distance (row one n) (row one d);
   escape = λ n d. cond (eqb (column one n) (column one d))
-    (mapped (hop-second one n) (two .escape (row one n) (row one d)))
-    (mapped (hop-first one n) (one .escape (column one n) (column one d)));
+      (mapped (hop-second one n) (two .escape (row one n) (row one d)))
+      (mapped (hop-first one n) (one .escape (column one n) (column one d)));
   rank = λ n p e. cond (ltb p (one .ports))
-    (one .rank (column one n) p e)
-    (one .ceiling + two .rank (row one n) (p - one .ports) e);
+      (one .rank (column one n) p e)
+      (one .ceiling + two .rank (row one n) (p - one .ports) e);
 }
 
 -- both parts are usable, and the whole has at most 64 nodes and 6 ports

@@ -37,19 +37,35 @@ pub impl<X: Routing, Y: Routing> Routing for Product<X, Y> as ProductRouting {
     ghost meaning = { λ x. product (X·Routing .meaning (x .first)) (Y·Routing .meaning (x .second)) };
 
     fn nodes(&self) -> usize {
-        if self.is_usable() { self.first.nodes() * self.second.nodes() } else { 0 }
+        if self.is_usable() {
+            self.first.nodes() * self.second.nodes()
+        } else {
+            0
+        }
     }
 
     fn ports(&self) -> usize {
-        if self.is_usable() { self.first.ports() + self.second.ports() } else { 0 }
+        if self.is_usable() {
+            self.first.ports() + self.second.ports()
+        } else {
+            0
+        }
     }
 
     fn classes(&self) -> usize {
-        if self.is_usable() { self.first.classes().max(self.second.classes()) } else { 0 }
+        if self.is_usable() {
+            self.first.classes().max(self.second.classes())
+        } else {
+            0
+        }
     }
 
     fn ceiling(&self) -> usize {
-        if self.is_usable() { self.first.ceiling() + self.second.ceiling() } else { 0 }
+        if self.is_usable() {
+            self.first.ceiling() + self.second.ceiling()
+        } else {
+            0
+        }
     }
 
     // The first part's ports come first and change the column; the second's change the row.
@@ -92,12 +108,20 @@ pub impl<X: Routing, Y: Routing> Routing for Product<X, Y> as ProductRouting {
         let (a, b) = (n % width, n / width);
         if a != d % width {
             match self.first.escape(a, d % width) {
-                Some(hop) => Some(Hop { port: hop.port, class: hop.class, next: node_at(width, hop.next, b) }),
+                Some(hop) => Some(Hop {
+                    port: hop.port,
+                    class: hop.class,
+                    next: node_at(width, hop.next, b),
+                }),
                 None => None,
             }
         } else {
             match self.second.escape(b, d / width) {
-                Some(hop) => Some(Hop { port: self.first.ports() + hop.port, class: hop.class, next: node_at(width, a, hop.next) }),
+                Some(hop) => Some(Hop {
+                    port: self.first.ports() + hop.port,
+                    class: hop.class,
+                    next: node_at(width, a, hop.next),
+                }),
                 None => None,
             }
         }

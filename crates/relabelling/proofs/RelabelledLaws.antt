@@ -27,45 +27,54 @@ label-next xs k x = rw add-one
 onto : (n : ℕ) (f : ℕ → ℕ) → ((i : ℕ) → i < n → f i < n) → ((i j : ℕ) → i < n → j < n → f i ≡ f j → i ≡ j) → (x : ℕ) → x < n → (i : ℕ) × (i < n) × (f i ≡ x)
 onto zero f b o x h = let r : ⊥ = omega arith in absurd r
 onto (suc m) f b o x h =
-  let g : ℕ → ℕ = λ i. cond (eqb (f i) m) (f m) (f i) in
-  let g-at : (i : ℕ) → f i ≡ m → g i ≡ f m = λ i e. rw (eq-eqb (f i) m e) in
-  let g-else : (i : ℕ) → f i ≢ m → g i ≡ f i = λ i e. rw (ne-eqb (f i) m e) in
-  let low : (i : ℕ) → i < m → g i < m = λ i a. elim (cases-eq (f i) m) [
-      inl e ↦
-        let ne : f m ≢ m = λ z. let q = o i m (omega arith) (omega arith) (e ∙ sym z) in omega arith in
-        omega (arith, g-at i e, b m (omega arith), ne)
-    | inr e ↦ omega (arith, g-else i e, b i (omega arith)) ] in
-  let once : (i j : ℕ) → i < m → j < m → g i ≡ g j → i ≡ j = λ i j a c q. elim (cases-eq (f i) m) [
-      inl e ↦ elim (cases-eq (f j) m) [
-          inl d ↦ o i j (omega arith) (omega arith) (e ∙ sym d)
-        | inr d ↦ let z = o m j (omega arith) (omega arith) (sym (g-at i e) ∙ q ∙ g-else j d) in omega arith ]
-    | inr e ↦ elim (cases-eq (f j) m) [
-          inl d ↦ let z = o i m (omega arith) (omega arith) (sym (g-else i e) ∙ q ∙ g-at j d) in omega arith
-        | inr d ↦ o i j (omega arith) (omega arith) (sym (g-else i e) ∙ q ∙ g-else j d) ] ] in
-  elim (cases-eq x (f m)) [
-    inl e ↦ (m, omega arith, sym e)
-  | inr e ↦ elim (cases-lt x m) [
-      inl l ↦
-        let w = onto m g low once x l in
-        elim (cases-eq (f (w .0)) m) [
-          inl d ↦ absurd (e (sym (w .2) ∙ g-at (w .0) d))
-        | inr d ↦ (w .0, omega (arith, w .1), sym (g-else (w .0) d) ∙ w .2) ]
-    | inr l ↦
-        let v : f m < m = omega (arith, b m (omega arith)) in
-        let w = onto m g low once (f m) v in
-        elim (cases-eq (f (w .0)) m) [
-          inl d ↦ (w .0, omega (arith, w .1), omega arith)
-        | inr d ↦ let z = o (w .0) m (omega (arith, w .1)) (omega arith) (sym (g-else (w .0) d) ∙ w .2) in let r : ⊥ = omega (arith, w .1) in absurd r ] ] ]
+    let g : ℕ → ℕ = λ i. cond (eqb (f i) m) (f m) (f i) in
+    let g-at : (i : ℕ) → f i ≡ m → g i ≡ f m = λ i e. rw (eq-eqb (f i) m e) in
+    let g-else : (i : ℕ) → f i ≢ m → g i ≡ f i = λ i e. rw (ne-eqb (f i) m e) in
+    let low : (i : ℕ) → i < m → g i < m = λ i a. elim (cases-eq (f i) m) [
+      | inl e ↦
+          let ne : f m ≢ m = λ z. let q = o i m (omega arith) (omega arith) (e ∙ sym z) in omega arith in
+          omega (arith, g-at i e, b m (omega arith), ne)
+      | inr e ↦ omega (arith, g-else i e, b i (omega arith))
+    ] in
+    let once : (i j : ℕ) → i < m → j < m → g i ≡ g j → i ≡ j = λ i j a c q. elim (cases-eq (f i) m) [
+      | inl e ↦ elim (cases-eq (f j) m) [
+        | inl d ↦ o i j (omega arith) (omega arith) (e ∙ sym d)
+        | inr d ↦ let z = o m j (omega arith) (omega arith) (sym (g-at i e) ∙ q ∙ g-else j d) in omega arith
+      ]
+      | inr e ↦ elim (cases-eq (f j) m) [
+        | inl d ↦ let z = o i m (omega arith) (omega arith) (sym (g-else i e) ∙ q ∙ g-at j d) in omega arith
+        | inr d ↦ o i j (omega arith) (omega arith) (sym (g-else i e) ∙ q ∙ g-else j d)
+      ]
+    ] in
+    elim (cases-eq x (f m)) [
+      | inl e ↦ (m, omega arith, sym e)
+      | inr e ↦ elim (cases-lt x m) [
+        | inl l ↦
+            let w = onto m g low once x l in
+            elim (cases-eq (f (w .0)) m) [
+              | inl d ↦ absurd (e (sym (w .2) ∙ g-at (w .0) d))
+              | inr d ↦ (w .0, omega (arith, w .1), sym (g-else (w .0) d) ∙ w .2)
+            ]
+        | inr l ↦
+            let v : f m < m = omega (arith, b m (omega arith)) in
+            let w = onto m g low once (f m) v in
+            elim (cases-eq (f (w .0)) m) [
+              | inl d ↦ (w .0, omega (arith, w .1), omega arith)
+              | inr d ↦ let z = o (w .0) m (omega (arith, w .1)) (omega arith) (sym (g-else (w .0) d) ∙ w .2) in let r : ⊥ = omega (arith, w .1) in absurd r
+            ]
+      ]
+    ]
 
 -- a label that is there is found
 found : (xs : List ℕ) (k i x : ℕ) → i < k → getD xs i 0 ≡ x → (label-of xs k x < k) × (getD xs (label-of xs k x) 0 ≡ x)
 found xs zero i x a e = let r : ⊥ = omega arith in absurd r
 found xs (suc k) i x a e = elim (cases-eq (getD xs k 0) x) [
-    inl d ↦ rw (eq-eqb (getD xs k 0) x d) (omega arith, d)
+  | inl d ↦ rw (eq-eqb (getD xs k 0) x d) (omega arith, d)
   | inr d ↦
-    let ne : i ≢ k = λ z. d (ap (λ y. getD xs y 0) (sym z) ∙ e) in
-    let w = found xs k i x (omega arith) e in
-    rw (ne-eqb (getD xs k 0) x d) (omega (arith, w .0), w .1) ]
+      let ne : i ≢ k = λ z. d (ap (λ y. getD xs y 0) (sym z) ∙ e) in
+      let w = found xs k i x (omega arith) e in
+      rw (ne-eqb (getD xs k 0) x d) (omega (arith, w .0), w .1)
+]
 
 module _ (count : ℕ) (xs : List ℕ) (within : (i : ℕ) → i < count → getD xs i 0 < count) (once : (i j : ℕ) → i < j → j < count → getD xs i 0 ≡ getD xs j 0 → ⊥) where
   abbrev position : ℕ → ℕ
@@ -76,8 +85,9 @@ module _ (count : ℕ) (xs : List ℕ) (within : (i : ℕ) → i < count → get
 
   distinct : (i j : ℕ) → i < count → j < count → position i ≡ position j → i ≡ j
   distinct i j a b e = elim (cases-order i j) [
-      inl z ↦ z
-    | inr w ↦ elim w [ inl z ↦ absurd (once i j z b e) | inr z ↦ absurd (once j i z a (sym e)) ] ]
+    | inl z ↦ z
+    | inr w ↦ elim w [ inl z ↦ absurd (once i j z b e) | inr z ↦ absurd (once j i z a (sym e)) ]
+  ]
 
   module _ (net : Network) (law : Lawful net) (e : net .nodes ≡ count) where
     abbrev rule : Network
@@ -91,31 +101,31 @@ module _ (count : ℕ) (xs : List ℕ) (within : (i : ℕ) → i < count → get
 
     back : (x : ℕ) → x < net .nodes → (label x < net .nodes) × (position (label x) ≡ x)
     back x a =
-      let i = onto count position within distinct x (omega arith) in
-      let w = found xs count (i .0) x (i .1) (i .2) in
-      (omega (arith, w .0), w .1)
+        let i = onto count position within distinct x (omega arith) in
+        let w = found xs count (i .0) x (i .1) (i .2) in
+        (omega (arith, w .0), w .1)
 
     lead : (n d : ℕ) (o : Option Hop) → Leads net (position n) (position d) o → Leads rule n d (mapped (hop-labelled xs count) o)
     lead n d None l = l
     lead n d (Some h) l =
-      let w = back (h .next) (link-asked net law (position n) (h .port) (h .next) (l .along) .2) in
-      record {
-        port-in = l .port-in;
-        class-in = l .class-in;
-        along = rw (l .along);
-        less = omega (arith, l .less, ap (λ z. net .distance z (position d)) (w .1));
-      }
+        let w = back (h .next) (link-asked net law (position n) (h .port) (h .next) (l .along) .2) in
+        record {
+          port-in = l .port-in;
+          class-in = l .class-in;
+          along = rw (l .along);
+          less = omega (arith, l .less, ap (λ z. net .distance z (position d)) (w .1));
+        }
 
     rises : Rises rule
     rises n d h j a b c l s m =
-      let v = mapped-some (hop-labelled xs count) (net .escape (position n) (position d)) h l in
-      let w = mapped-some (hop-labelled xs count) (net .escape (position (h .next)) (position d)) j m in
-      let k = back (v .0 .next) (hop-node net law (position n) (position d) (v .0) (v .1)) in
-      let x : position (h .next) ≡ v .0 .next = ap (λ z. position (z .next)) (v .2) ∙ k .1 in
-      let up = hop-rises net law (position n) (position d) (v .0) (w .0) (v .1) (ap (λ z. net .escape z (position d)) (sym x) ∙ w .1) in
-      let r : rule .rank n (h .port) (h .class) ≡ net .rank (position n) (v .0 .port) (v .0 .class) = ap (λ (z : Hop). net .rank (position n) (z .port) (z .class)) (v .2) in
-      let t : rule .rank (h .next) (j .port) (j .class) ≡ net .rank (v .0 .next) (w .0 .port) (w .0 .class) = ap (λ z. net .rank z (j .port) (j .class)) x ∙ ap (λ (z : Hop). net .rank (v .0 .next) (z .port) (z .class)) (w .2) in
-      omega arith
+        let v = mapped-some (hop-labelled xs count) (net .escape (position n) (position d)) h l in
+        let w = mapped-some (hop-labelled xs count) (net .escape (position (h .next)) (position d)) j m in
+        let k = back (v .0 .next) (hop-node net law (position n) (position d) (v .0) (v .1)) in
+        let x : position (h .next) ≡ v .0 .next = ap (λ z. position (z .next)) (v .2) ∙ k .1 in
+        let up = hop-rises net law (position n) (position d) (v .0) (w .0) (v .1) (ap (λ z. net .escape z (position d)) (sym x) ∙ w .1) in
+        let r : rule .rank n (h .port) (h .class) ≡ net .rank (position n) (v .0 .port) (v .0 .class) = ap (λ (z : Hop). net .rank (position n) (z .port) (z .class)) (v .2) in
+        let t : rule .rank (h .next) (j .port) (j .class) ≡ net .rank (v .0 .next) (w .0 .port) (w .0 .class) = ap (λ z. net .rank z (j .port) (j .class)) x ∙ ap (λ (z : Hop). net .rank (v .0 .next) (z .port) (z .class)) (w .2) in
+        omega arith
 
     relabelled-sound : Sound rule
     relabelled-sound = record {
@@ -125,29 +135,33 @@ module _ (count : ℕ) (xs : List ℕ) (within : (i : ℕ) → i < count → get
         apart = λ n d a b z. apart n d a b (law .distances .apart (position n) (position d) (at n a) (at d b) z);
       };
       steps = λ n p m d a b c l.
-        let w = mapped-some label (net .link (position n) p) m l in
-        let k = back (w .0) (link-asked net law (position n) p (w .0) (w .1) .2) in
-        let x : position m ≡ w .0 = ap position (w .2) ∙ k .1 in
-        omega (arith, law .steps (position n) p (w .0) (position d) (at n a) b (at d c) (w .1), ap (λ z. net .distance z (position d)) x);
+          let w = mapped-some label (net .link (position n) p) m l in
+          let k = back (w .0) (link-asked net law (position n) p (w .0) (w .1) .2) in
+          let x : position m ≡ w .0 = ap position (w .2) ∙ k .1 in
+          omega (arith, law .steps (position n) p (w .0) (position d) (at n a) b (at d c) (w .1), ap (λ z. net .distance z (position d)) x);
       escapes = λ n d a b c. lead n d (net .escape (position n) (position d)) (law .escapes (position n) (position d) (at n a) (at d b) (λ z. c (apart n d a b z)));
       low = λ n p e m a b c l. law .ceilings (position n) p e (at n a) b c;
       rises = rises;
       links = λ n p m a b l.
-        let w = mapped-some label (net .link (position n) p) m l in
-        rw (w .2) (back (w .0) (link-asked net law (position n) p (w .0) (w .1) .2) .0);
+          let w = mapped-some label (net .link (position n) p) m l in
+          rw (w .2) (back (w .0) (link-asked net law (position n) p (w .0) (w .1) .2) .0);
     }
 
     relabelled-sizes : 2 ≤ count → Sizes rule
     relabelled-sizes some =
-      let z = law .sizes (omega arith) in
-      record {
-        nodes-low = z .nodes-low; nodes-high = z .nodes-high;
-        ports-low = z .ports-low; ports-high = z .ports-high;
-        classes-low = z .classes-low; classes-high = z .classes-high;
-        ceiling-low = z .ceiling-low; ceiling-high = z .ceiling-high;
-      }
+        let z = law .sizes (omega arith) in
+        record {
+          nodes-low = z .nodes-low;
+          nodes-high = z .nodes-high;
+          ports-low = z .ports-low;
+          ports-high = z .ports-high;
+          classes-low = z .classes-low;
+          classes-high = z .classes-high;
+          ceiling-low = z .ceiling-low;
+          ceiling-high = z .ceiling-high;
+        }
 
   pub relabelled-lawful : 2 ≤ count → (net : Network) → Lawful net → Lawful (relabelled count xs net)
   relabelled-lawful some net law = usable-lawful (relabelled-sized count net) (relabelled-rule count xs net)
-    (λ good. relabelled-sizes net law (eqb-true (net .nodes) count good) some)
-    (λ good. relabelled-sound net law (eqb-true (net .nodes) count good))
+      (λ good. relabelled-sizes net law (eqb-true (net .nodes) count good) some)
+      (λ good. relabelled-sound net law (eqb-true (net .nodes) count good))

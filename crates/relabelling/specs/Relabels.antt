@@ -19,7 +19,10 @@ hop-labelled xs count h = hop (h .port) (h .class) (label-of xs count (h .next))
 -- Node i stands at the position of label i, and the nodes in answers are told by their labels.
 abbrev pub relabelled-rule : ℕ → List ℕ → Network → Network
 relabelled-rule count xs net = record {
-  nodes = net .nodes; ports = net .ports; classes = net .classes; ceiling = net .ceiling;
+  nodes = net .nodes;
+  ports = net .ports;
+  classes = net .classes;
+  ceiling = net .ceiling;
   link = λ n p. mapped (label-of xs count) (net .link (getD xs n 0) p);
   distance = λ n d. net .distance (getD xs n 0) (getD xs d 0);
   escape = λ n d. mapped (hop-labelled xs count) (net .escape (getD xs n 0) (getD xs d 0));

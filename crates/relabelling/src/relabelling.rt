@@ -27,19 +27,35 @@ pub impl<X: Routing> Routing for Relabelling<X> as RelabellingRouting {
     ghost meaning = { λ x. relabelled (x .labelling .count) (x .labelling .positions) (X·Routing .meaning (x .routing)) };
 
     fn nodes(&self) -> usize {
-        if self.is_usable() { self.routing.nodes() } else { 0 }
+        if self.is_usable() {
+            self.routing.nodes()
+        } else {
+            0
+        }
     }
 
     fn ports(&self) -> usize {
-        if self.is_usable() { self.routing.ports() } else { 0 }
+        if self.is_usable() {
+            self.routing.ports()
+        } else {
+            0
+        }
     }
 
     fn classes(&self) -> usize {
-        if self.is_usable() { self.routing.classes() } else { 0 }
+        if self.is_usable() {
+            self.routing.classes()
+        } else {
+            0
+        }
     }
 
     fn ceiling(&self) -> usize {
-        if self.is_usable() { self.routing.ceiling() } else { 0 }
+        if self.is_usable() {
+            self.routing.ceiling()
+        } else {
+            0
+        }
     }
 
     fn link(&self, n: usize, p: usize) -> Option<usize> {
@@ -66,7 +82,11 @@ pub impl<X: Routing> Routing for Relabelling<X> as RelabellingRouting {
             return None;
         }
         match self.routing.escape(self.labelling.position_of(n), self.labelling.position_of(d)) {
-            Some(hop) => Some(Hop { port: hop.port, class: hop.class, next: self.labelling.label_at(hop.next) }),
+            Some(hop) => Some(Hop {
+                port: hop.port,
+                class: hop.class,
+                next: self.labelling.label_at(hop.next),
+            }),
             None => None,
         }
     }

@@ -16,12 +16,15 @@ ring-down k n d = (n + k - d) % k
 -- still crosses between the last node and node 0, else 1.
 abbrev pub ring-rule : ℕ → Network
 ring-rule k = record {
-  nodes = k; ports = 2; classes = 2; ceiling = 2 * k;
+  nodes = k;
+  ports = 2;
+  classes = 2;
+  ceiling = 2 * k;
   link = λ n p. cond (eqb p 0) (Some ((n + 1) % k)) (Some ((n + k - 1) % k));
   distance = λ n d. min (ring-up k n d) (ring-down k n d);
   escape = λ n d. cond (leb (ring-up k n d) (ring-down k n d))
-    (Some (hop 0 (cond (ltb d n) 0 1) ((n + 1) % k)))
-    (Some (hop 1 (cond (ltb n d) 0 1) ((n + k - 1) % k)));
+      (Some (hop 0 (cond (ltb d n) 0 1) ((n + 1) % k)))
+      (Some (hop 1 (cond (ltb n d) 0 1) ((n + k - 1) % k)));
   rank = λ n p e. cond (eqb p 0) (e * k + n) (e * k + k - 1 - n);
 }
 

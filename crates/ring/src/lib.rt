@@ -5,6 +5,10 @@ ghost use Rattle.ring.specs.Rings.{ring, ring-sized, ring-up};
 use network::Hop;
 use network::Routing;
 
+const PORTS: usize = 2;
+
+const CLASSES: usize = 2;
+
 // The ring of `size` nodes. A size that is not 3 to 64 makes a ring that is unusable.
 #[derive(Clone, Copy, PartialEq, Eq, Debug)]
 pub struct Ring {
@@ -36,11 +40,11 @@ pub impl Routing for Ring as RingRouting {
     }
 
     fn ports(&self) -> usize {
-        if self.is_usable() { 2 } else { 0 }
+        if self.is_usable() { PORTS } else { 0 }
     }
 
     fn classes(&self) -> usize {
-        if self.is_usable() { 2 } else { 0 }
+        if self.is_usable() { CLASSES } else { 0 }
     }
 
     fn ceiling(&self) -> usize {
@@ -50,7 +54,7 @@ pub impl Routing for Ring as RingRouting {
     // Port 0 leads up and port 1 down, each once round.
     fn link(&self, n: usize, p: usize) -> Option<usize> {
         let nodes = self.nodes();
-        if n >= nodes || p >= 2 {
+        if n >= nodes || p >= PORTS {
             None
         } else if p == 0 {
             Some((n + 1) % nodes)
@@ -62,7 +66,11 @@ pub impl Routing for Ring as RingRouting {
     // The shorter of the two ways round.
     fn distance(&self, n: usize, d: usize) -> usize {
         let nodes = self.nodes();
-        if n >= nodes || d >= nodes { 0 } else { hops_up(nodes, n, d).min(hops_up(nodes, d, n)) }
+        if n >= nodes || d >= nodes {
+            0
+        } else {
+            hops_up(nodes, n, d).min(hops_up(nodes, d, n))
+        }
     }
 
     // The shorter way, up where both are equal. A packet that still has to pass the seam between the last node and node 0
@@ -73,17 +81,41 @@ pub impl Routing for Ring as RingRouting {
             None
         } else if hops_up(nodes, n, d) <= hops_up(nodes, d, n) {
             let next = (n + 1) % nodes;
-            if n > d { Some(Hop { port: 0, class: 0, next }) } else { Some(Hop { port: 0, class: 1, next }) }
+            if n > d {
+                Some(Hop {
+                    port: 0,
+                    class: 0,
+                    next,
+                })
+            } else {
+                Some(Hop {
+                    port: 0,
+                    class: 1,
+                    next,
+                })
+            }
         } else {
             let next = (n + nodes - 1) % nodes;
-            if n < d { Some(Hop { port: 1, class: 0, next }) } else { Some(Hop { port: 1, class: 1, next }) }
+            if n < d {
+                Some(Hop {
+                    port: 1,
+                    class: 0,
+                    next,
+                })
+            } else {
+                Some(Hop {
+                    port: 1,
+                    class: 1,
+                    next,
+                })
+            }
         }
     }
 
     // Ranks rise in the direction of travel, and from class 0 to class 1.
     fn rank(&self, n: usize, p: usize, e: usize) -> usize {
         let nodes = self.nodes();
-        if n >= nodes || p >= 2 || e >= 2 {
+        if n >= nodes || p >= PORTS || e >= CLASSES {
             0
         } else if p == 0 {
             e * nodes + n

@@ -41,6 +41,10 @@ impl Labelling {
     pub fn position(&self, label: usize) -> Option<usize>
         ensures { λ r. ⌜ r ≡ cond (ltb label (now (self .entry) .count)) (Some (getD (now (self .entry) .positions) label 0)) None ⌝ }
     {
-        if label < self.count { Some(self.position_of(label)) } else { None }
+        if label < self.count {
+            Some(self.position_of(label))
+        } else {
+            None
+        }
     }
 }

@@ -68,7 +68,10 @@ impl Labelling {
             return Err(LabellingRefusal::Count { count });
         }
         if let Some(label) = first_outside(bytes) {
-            return Err(LabellingRefusal::Outside { label, position: bytes[label] as usize });
+            return Err(LabellingRefusal::Outside {
+                label,
+                position: bytes[label] as usize,
+            });
         }
         if let Some((first, second)) = first_repeat(bytes) {
             return Err(LabellingRefusal::Repeated { first, second });
