@@ -23,47 +23,67 @@ use Rattle.relabelling.specs.Relabels.{label-of, hop-labelled, relabelled-rule
 pub label-next : (xs : List ℕ) (k x : ℕ) → label-of xs (k + 1) x ≡ cond (eqb (getD xs k 0) x) k (label-of xs k x)
 label-next xs k x = rw add-one
 
--- n numbers under n, each once, are all of the numbers under n
-onto : (n : ℕ) (f : ℕ → ℕ) → ((i : ℕ) → i < n → f i < n) → ((i j : ℕ) → i < n → j < n → f i ≡ f j → i ≡ j) → (x : ℕ) → x < n → (i : ℕ) × (i < n) × (f i ≡ x)
-onto zero f b o x h = let r : ⊥ = omega arith in absurd r
-onto (suc m) f b o x h =
-    let g : ℕ → ℕ = λ i. cond (eqb (f i) m) (f m) (f i) in
-    let g-at : (i : ℕ) → f i ≡ m → g i ≡ f m = λ i e. rw (eq-eqb (f i) m e) in
-    let g-else : (i : ℕ) → f i ≢ m → g i ≡ f i = λ i e. rw (ne-eqb (f i) m e) in
-    let low : (i : ℕ) → i < m → g i < m = λ i a. elim (cases-eq (f i) m) [
-      | inl e ↦
-          let ne : f m ≢ m = λ z. let q = o i m (omega arith) (omega arith) (e ∙ sym z) in omega arith in
-          omega (arith, g-at i e, b m (omega arith), ne)
-      | inr e ↦ omega (arith, g-else i e, b i (omega arith))
-    ] in
-    let once : (i j : ℕ) → i < m → j < m → g i ≡ g j → i ≡ j = λ i j a c q. elim (cases-eq (f i) m) [
-      | inl e ↦ elim (cases-eq (f j) m) [
-        | inl d ↦ o i j (omega arith) (omega arith) (e ∙ sym d)
-        | inr d ↦ let z = o m j (omega arith) (omega arith) (sym (g-at i e) ∙ q ∙ g-else j d) in omega arith
-      ]
-      | inr e ↦ elim (cases-eq (f j) m) [
-        | inl d ↦ let z = o i m (omega arith) (omega arith) (sym (g-else i e) ∙ q ∙ g-at j d) in omega arith
-        | inr d ↦ o i j (omega arith) (omega arith) (sym (g-else i e) ∙ q ∙ g-else j d)
-      ]
-    ] in
-    elim (cases-eq x (f m)) [
-      | inl e ↦ (m, omega arith, sym e)
-      | inr e ↦ elim (cases-lt x m) [
-        | inl l ↦
-            let w = onto m g low once x l in
-            elim (cases-eq (f (w .0)) m) [
-              | inl d ↦ absurd (e (sym (w .2) ∙ g-at (w .0) d))
-              | inr d ↦ (w .0, omega (arith, w .1), sym (g-else (w .0) d) ∙ w .2)
-            ]
-        | inr l ↦
-            let v : f m < m = omega (arith, b m (omega arith)) in
-            let w = onto m g low once (f m) v in
-            elim (cases-eq (f (w .0)) m) [
-              | inl d ↦ (w .0, omega (arith, w .1), omega arith)
-              | inr d ↦ let z = o (w .0) m (omega (arith, w .1)) (omega arith) (sym (g-else (w .0) d) ∙ w .2) in let r : ⊥ = omega (arith, w .1) in absurd r
-            ]
-      ]
+-- f below m, with f m in the place of what equals m
+unfoldable packed : (ℕ → ℕ) → ℕ → ℕ → ℕ
+packed f m i = cond (eqb (f i) m) (f m) (f i)
+
+packed-at : (f : ℕ → ℕ) (m i : ℕ) → f i ≡ m → packed f m i ≡ f m
+unfolding packed
+packed-at f m i e = rw (eq-eqb (f i) m e)
+
+packed-else : (f : ℕ → ℕ) (m i : ℕ) → f i ≢ m → packed f m i ≡ f i
+unfolding packed
+packed-else f m i e = rw (ne-eqb (f i) m e)
+
+-- the numbers that f gives below n are under n, each once
+record Shuffles (n : ℕ) (f : ℕ → ℕ) : Type 0 where
+  under : (i : ℕ) → i < n → f i < n
+  distinct : (i j : ℕ) → i < n → j < n → f i ≡ f j → i ≡ j
+
+packed-shuffles : (m : ℕ) (f : ℕ → ℕ) → Shuffles (suc m) f → Shuffles m (packed f m)
+packed-shuffles m f s = record {
+  under = λ i a. elim (cases-eq (f i) m) [
+    | inl e ↦
+      let ne : f m ≢ m = λ z. let q = s .distinct i m (omega arith) (omega arith) (e ∙ sym z) in omega arith in
+      omega (arith, packed-at f m i e, s .under m (omega arith), ne)
+    | inr e ↦ omega (arith, packed-else f m i e, s .under i (omega arith))
+  ];
+  distinct = λ i j a c q. elim (cases-eq (f i) m) [
+    | inl e ↦ elim (cases-eq (f j) m) [
+      | inl d ↦ s .distinct i j (omega arith) (omega arith) (e ∙ sym d)
+      | inr d ↦ let z = s .distinct m j (omega arith) (omega arith) (sym (packed-at f m i e) ∙ q ∙ packed-else f m j d) in omega arith
     ]
+    | inr e ↦ elim (cases-eq (f j) m) [
+      | inl d ↦ let z = s .distinct i m (omega arith) (omega arith) (sym (packed-else f m i e) ∙ q ∙ packed-at f m j d) in omega arith
+      | inr d ↦ s .distinct i j (omega arith) (omega arith) (sym (packed-else f m i e) ∙ q ∙ packed-else f m j d)
+    ]
+  ];
+}
+
+-- n numbers under n, each once, are all of the numbers under n
+onto : (n : ℕ) (f : ℕ → ℕ) → Shuffles n f → (x : ℕ) → x < n → (i : ℕ) × (i < n) × (f i ≡ x)
+onto zero f s x h = let r : ⊥ = omega arith in absurd r
+onto (suc m) f s x h = elim (cases-eq x (f m)) [
+  | inl e ↦ (m, omega arith, sym e)
+  | inr e ↦ elim (cases-lt x m) [
+    | inl l ↦
+      let w = onto m (packed f m) (packed-shuffles m f s) x l in
+      elim (cases-eq (f (w .0)) m) [
+        | inl d ↦ absurd (e (sym (w .2) ∙ packed-at f m (w .0) d))
+        | inr d ↦ (w .0, omega (arith, w .1), sym (packed-else f m (w .0) d) ∙ w .2)
+      ]
+    | inr l ↦
+      let v : f m < m = omega (arith, s .under m (omega arith)) in
+      let w = onto m (packed f m) (packed-shuffles m f s) (f m) v in
+      elim (cases-eq (f (w .0)) m) [
+        | inl d ↦ (w .0, omega (arith, w .1), omega arith)
+        | inr d ↦
+          let z = s .distinct (w .0) m (omega (arith, w .1)) (omega arith) (sym (packed-else f m (w .0) d) ∙ w .2) in
+          let r : ⊥ = omega (arith, w .1) in
+          absurd r
+      ]
+  ]
+]
 
 -- a label that is there is found
 found : (xs : List ℕ) (k i x : ℕ) → i < k → getD xs i 0 ≡ x → (label-of xs k x < k) × (getD xs (label-of xs k x) 0 ≡ x)
@@ -101,7 +121,7 @@ module _ (count : ℕ) (xs : List ℕ) (within : (i : ℕ) → i < count → get
 
     back : (x : ℕ) → x < net .nodes → (label x < net .nodes) × (position (label x) ≡ x)
     back x a =
-        let i = onto count position within distinct x (omega arith) in
+        let i = onto count position (record { under = within; distinct = distinct }) x (omega arith) in
         let w = found xs count (i .0) x (i .1) (i .2) in
         (omega (arith, w .0), w .1)
 

@@ -1,0 +1,2 @@
+pub mod ShapeLaws
+pub mod ExamplesHold

@@ -1,0 +1,3 @@
+pub mod Shapes
+pub mod Topologies
+pub mod Examples
