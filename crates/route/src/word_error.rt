@@ -1,0 +1,31 @@
+// Why words are no command.
+use std::alloc::Refused;
+use std::error::Error;
+use std::fmt;
+
+#[derive(Clone, Copy, PartialEq, Eq, Debug)]
+pub enum WordError {
+    NoShape,
+    NoNumber { place: usize },
+    WrongCount { sizes: usize },
+    OutOfMemory,
+}
+
+pub impl<T: Drop> From<Refused<T>> for WordError as WordErrorFromRefused {
+    fn from(_refused: Refused<T>) -> Self {
+        WordError::OutOfMemory
+    }
+}
+
+pub impl fmt::Display for WordError as WordErrorDisplay {
+    fn fmt<W: fmt::Write>(&self, f: &mut fmt::Formatter<W>) -> fmt::Result {
+        match *self {
+            WordError::NoShape => f.write_str("the first word must be line, ring, tree, mesh, torus or cylinder"),
+            WordError::NoNumber { place } => write!(f, "word {place} after the shape is not a number"),
+            WordError::WrongCount { sizes } => write!(f, "after the shape there must be its sizes, {sizes} of them, and two nodes"),
+            WordError::OutOfMemory => f.write_str("out of memory"),
+        }
+    }
+}
+
+pub impl Error for WordError as WordErrorError {}
