@@ -1,7 +1,7 @@
 // The labellings that are made, and the refusals in their order.
-use network::Routing;
 use line::Line;
 use line::LineRouting;
+use network::Routing;
 use relabelling::Labelling;
 use relabelling::LabellingRefusal;
 use relabelling::LabellingRefusalDebug;
@@ -26,10 +26,38 @@ fn refusals() -> Result<(), Fail> {
     check_refused(&[0], LabellingRefusal::Count { count: 1 }, 13)?;
     check_refused(&[0; 65], LabellingRefusal::Count { count: 65 }, 13)?;
     check_refused(&[9], LabellingRefusal::Count { count: 1 }, 13).note("the count comes first")?;
-    check_refused(&[0, 2], LabellingRefusal::Outside { label: 1, position: 2 }, 14)?;
-    check_refused(&[1, 1, 3], LabellingRefusal::Outside { label: 2, position: 3 }, 14).note("the range comes before the repeat")?;
-    check_refused(&[0; 64], LabellingRefusal::Repeated { first: 0, second: 1 }, 15)?;
-    check_refused(&[3, 1, 0, 1, 3], LabellingRefusal::Repeated { first: 1, second: 3 }, 15)
+    check_refused(
+        &[0, 2],
+        LabellingRefusal::Outside {
+            label: 1,
+            position: 2,
+        },
+        14,
+    )?;
+    check_refused(
+        &[1, 1, 3],
+        LabellingRefusal::Outside {
+            label: 2,
+            position: 3,
+        },
+        14,
+    ).note("the range comes before the repeat")?;
+    check_refused(
+        &[0; 64],
+        LabellingRefusal::Repeated {
+            first: 0,
+            second: 1,
+        },
+        15,
+    )?;
+    check_refused(
+        &[3, 1, 0, 1, 3],
+        LabellingRefusal::Repeated {
+            first: 1,
+            second: 3,
+        },
+        15,
+    )
 }
 
 #[test]
@@ -43,7 +71,10 @@ fn made() -> Result<(), Fail> {
             }
             check_eq(labelling.position(4), None)?;
             // labels 1, 3, 0 and 2 stand in a row
-            let line = Relabelling { routing: Line { size: 4 }, labelling };
+            let line = Relabelling {
+                routing: Line { size: 4 },
+                labelling,
+            };
             check_eq(line.link(1, 0), Some(3))?;
             check_eq(line.link(3, 0), Some(0))?;
             check_eq(line.link(2, 0), None)?;

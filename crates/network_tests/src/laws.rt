@@ -47,7 +47,9 @@ fn check_hop<R: Routing>(routing: &R, n: usize, d: usize, hop: Hop) -> Result<()
     check_eq(routing.link(n, hop.port), Some(hop.next))?;
     check(routing.distance(hop.next, d).saturating_add(1) == routing.distance(n, d))?;
     match routing.escape(hop.next, d) {
-        Some(after) => check(routing.rank(n, hop.port, hop.class) < routing.rank(hop.next, after.port, after.class)),
+        Some(after) => check(
+            routing.rank(n, hop.port, hop.class) < routing.rank(hop.next, after.port, after.class),
+        ),
         None => check(hop.next == d),
     }
 }
@@ -136,12 +138,40 @@ fn trees() -> Result<(), Fail> {
 
 #[test]
 fn products() -> Result<(), Fail> {
-    check_laws(&Product { first: Line { size: 8 }, second: Line { size: 8 } }).note("a mesh")?;
-    check_laws(&Product { first: Ring { size: 4 }, second: Ring { size: 5 } }).note("a torus")?;
-    check_laws(&Product { first: Ring { size: 5 }, second: Line { size: 3 } }).note("a cylinder")?;
-    check_laws(&Product { first: Line { size: 3 }, second: Ring { size: 4 } }).note("a line times a ring")?;
-    let plane = Product { first: Line { size: 2 }, second: Ring { size: 3 } };
-    check_laws(&Product { first: plane, second: Line { size: 4 } }).note("a product of a product")
+    check_laws(
+        &Product {
+            first: Line { size: 8 },
+            second: Line { size: 8 },
+        },
+    ).note("a mesh")?;
+    check_laws(
+        &Product {
+            first: Ring { size: 4 },
+            second: Ring { size: 5 },
+        },
+    ).note("a torus")?;
+    check_laws(
+        &Product {
+            first: Ring { size: 5 },
+            second: Line { size: 3 },
+        },
+    ).note("a cylinder")?;
+    check_laws(
+        &Product {
+            first: Line { size: 3 },
+            second: Ring { size: 4 },
+        },
+    ).note("a line times a ring")?;
+    let plane = Product {
+        first: Line { size: 2 },
+        second: Ring { size: 3 },
+    };
+    check_laws(
+        &Product {
+            first: plane,
+            second: Line { size: 4 },
+        },
+    ).note("a product of a product")
 }
 
 #[test]
@@ -149,8 +179,18 @@ fn relabellings() -> Result<(), Fail> {
     let bytes = [5, 3, 0, 6, 1, 4, 2];
     match Labelling::new(&bytes) {
         Ok(labelling) => {
-            check_laws(&Relabelling { routing: Ring { size: 7 }, labelling }).note("a ring with labels")?;
-            check_laws(&Relabelling { routing: Tree { height: 2, fat: 1 }, labelling }).note("a tree with labels")
+            check_laws(
+                &Relabelling {
+                    routing: Ring { size: 7 },
+                    labelling,
+                },
+            ).note("a ring with labels")?;
+            check_laws(
+                &Relabelling {
+                    routing: Tree { height: 2, fat: 1 },
+                    labelling,
+                },
+            ).note("a tree with labels")
         }
         Err(_) => Err(Fail::new("the bytes are a labelling")),
     }

@@ -15,7 +15,12 @@ use tree::TreeRouting;
 
 // No nodes, ports, classes or ceiling, and none or 0 for an answer.
 fn check_unusable<R: Routing>(routing: &R) -> Result<(), Fail> {
-    check(routing.nodes() == 0 && routing.ports() == 0 && routing.classes() == 0 && routing.ceiling() == 0)?;
+    check(
+        routing.nodes() == 0
+            && routing.ports() == 0
+            && routing.classes() == 0
+            && routing.ceiling() == 0,
+    )?;
     for n in 0..4 {
         for d in 0..4 {
             check(routing.link(n, d).is_none() && routing.distance(n, d) == 0)?;
@@ -51,19 +56,54 @@ fn bad_trees() -> Result<(), Fail> {
 
 #[test]
 fn bad_products() -> Result<(), Fail> {
-    check_unusable(&Product { first: Line { size: 8 }, second: Line { size: 9 } }).note("72 nodes")?;
-    check_unusable(&Product { first: Ring { size: 2 }, second: Ring { size: 4 } }).note("an unusable first part")?;
-    check_unusable(&Product { first: Ring { size: 4 }, second: Line { size: 1 } }).note("an unusable second part")?;
-    check_unusable(&Product { first: Tree { height: 1, fat: 0 }, second: Line { size: 2 } }).note("8 ports")
+    check_unusable(
+        &Product {
+            first: Line { size: 8 },
+            second: Line { size: 9 },
+        },
+    ).note("72 nodes")?;
+    check_unusable(
+        &Product {
+            first: Ring { size: 2 },
+            second: Ring { size: 4 },
+        },
+    ).note("an unusable first part")?;
+    check_unusable(
+        &Product {
+            first: Ring { size: 4 },
+            second: Line { size: 1 },
+        },
+    ).note("an unusable second part")?;
+    check_unusable(
+        &Product {
+            first: Tree { height: 1, fat: 0 },
+            second: Line { size: 2 },
+        },
+    ).note("8 ports")
 }
 
 #[test]
 fn bad_relabellings() -> Result<(), Fail> {
     match Labelling::new(&[2, 0, 1]) {
         Ok(labelling) => {
-            check_unusable(&Relabelling { routing: Line { size: 4 }, labelling }).note("fewer labels than nodes")?;
-            check_unusable(&Relabelling { routing: Line { size: 2 }, labelling }).note("more labels than nodes")?;
-            check_unusable(&Relabelling { routing: Line { size: 0 }, labelling }).note("an unusable line")
+            check_unusable(
+                &Relabelling {
+                    routing: Line { size: 4 },
+                    labelling,
+                },
+            ).note("fewer labels than nodes")?;
+            check_unusable(
+                &Relabelling {
+                    routing: Line { size: 2 },
+                    labelling,
+                },
+            ).note("more labels than nodes")?;
+            check_unusable(
+                &Relabelling {
+                    routing: Line { size: 0 },
+                    labelling,
+                },
+            ).note("an unusable line")
         }
         Err(_) => Err(Fail::new("the bytes are a labelling")),
     }

@@ -44,8 +44,8 @@ packed-shuffles : (m : ℕ) (f : ℕ → ℕ) → Shuffles (suc m) f → Shuffle
 packed-shuffles m f s = record {
   under = λ i a. elim (cases-eq (f i) m) [
     | inl e ↦
-      let ne : f m ≢ m = λ z. let q = s .distinct i m (omega arith) (omega arith) (e ∙ sym z) in omega arith in
-      omega (arith, packed-at f m i e, s .under m (omega arith), ne)
+        let ne : f m ≢ m = λ z. let q = s .distinct i m (omega arith) (omega arith) (e ∙ sym z) in omega arith in
+        omega (arith, packed-at f m i e, s .under m (omega arith), ne)
     | inr e ↦ omega (arith, packed-else f m i e, s .under i (omega arith))
   ];
   distinct = λ i j a c q. elim (cases-eq (f i) m) [
@@ -67,21 +67,21 @@ onto (suc m) f s x h = elim (cases-eq x (f m)) [
   | inl e ↦ (m, omega arith, sym e)
   | inr e ↦ elim (cases-lt x m) [
     | inl l ↦
-      let w = onto m (packed f m) (packed-shuffles m f s) x l in
-      elim (cases-eq (f (w .0)) m) [
-        | inl d ↦ absurd (e (sym (w .2) ∙ packed-at f m (w .0) d))
-        | inr d ↦ (w .0, omega (arith, w .1), sym (packed-else f m (w .0) d) ∙ w .2)
-      ]
+        let w = onto m (packed f m) (packed-shuffles m f s) x l in
+        elim (cases-eq (f (w .0)) m) [
+          | inl d ↦ absurd (e (sym (w .2) ∙ packed-at f m (w .0) d))
+          | inr d ↦ (w .0, omega (arith, w .1), sym (packed-else f m (w .0) d) ∙ w .2)
+        ]
     | inr l ↦
-      let v : f m < m = omega (arith, s .under m (omega arith)) in
-      let w = onto m (packed f m) (packed-shuffles m f s) (f m) v in
-      elim (cases-eq (f (w .0)) m) [
-        | inl d ↦ (w .0, omega (arith, w .1), omega arith)
-        | inr d ↦
-          let z = s .distinct (w .0) m (omega (arith, w .1)) (omega arith) (sym (packed-else f m (w .0) d) ∙ w .2) in
-          let r : ⊥ = omega (arith, w .1) in
-          absurd r
-      ]
+        let v : f m < m = omega (arith, s .under m (omega arith)) in
+        let w = onto m (packed f m) (packed-shuffles m f s) (f m) v in
+        elim (cases-eq (f (w .0)) m) [
+          | inl d ↦ (w .0, omega (arith, w .1), omega arith)
+          | inr d ↦
+              let z = s .distinct (w .0) m (omega (arith, w .1)) (omega arith) (sym (packed-else f m (w .0) d) ∙ w .2) in
+              let r : ⊥ = omega (arith, w .1) in
+              absurd r
+        ]
   ]
 ]
 

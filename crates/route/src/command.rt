@@ -1,8 +1,8 @@
 // What the program is asked: a shape, and the two nodes between which a route is traced.
 ghost use mathlib.Core.Path.{_≡_};
-ghost use Prim.Native.Nat.{ℕ, _^_, _<_};
-ghost use Rattle.std.specs.declared.option.Option.the-variants.{None, Some};
-ghost use Rattle.route.specs.Commands.{as-command, Reads};
+ghost use Prim.Native.Nat.{_<_};
+ghost use lib.ListN.{length};
+ghost use Rattle.route.specs.Commands.{as-command, Reads, Numbered, FirstNamed, Parsed, texts};
 use crate::shape_name::ShapeName;
 use crate::shape_name::shape_named;
 use crate::word_error::WordError;
@@ -44,11 +44,14 @@ pub fn command_of(name: ShapeName, numbers: &[usize]) -> Option<Command>
     })
 }
 
-// The numbers that the words after the first write.
-fn numbers(heap: Global, words: &[String]) -> Result<Vec<usize>, WordError> {
+// The numbers that the words after the first write, or the place of the first that writes none.
+fn numbers(heap: Global, words: &[String]) -> Result<Vec<usize>, WordError>
+    requires { ⌜ 0 < length (texts (now words)) ⌝ }
+    ensures { λ r. ⌜ Numbered (texts (now (words .entry))) r ⌝ }
+{
     let mut all = Vec::new(heap);
-    for (place, word) in words.iter().enumerate().skip(1) {
-        match number(word.as_str()) {
+    for place in 1..words.len() {
+        match number(words[place].as_str()) {
             Some(number) => all.push(number)?,
             None => return Err(WordError::NoNumber { place }),
         }
@@ -56,17 +59,30 @@ fn numbers(heap: Global, words: &[String]) -> Result<Vec<usize>, WordError> {
     Ok(all)
 }
 
+// The shape that the first word names, if there is one and it does.
+fn first_named(words: &[String]) -> Option<ShapeName>
+    ensures { λ r. ⌜ FirstNamed (texts (now (words .entry))) r ⌝ }
+{
+    if words.is_empty() {
+        return None;
+    }
+    shape_named(words[0].as_str())
+}
+
 // The command that the words are: the name of a shape, its sizes, and the two nodes.
-pub fn parse(heap: Global, words: &[String]) -> Result<Command, WordError> {
-    let Some(word) = words.first() else {
+pub fn parse(heap: Global, words: &[String]) -> Result<Command, WordError>
+    ensures { λ r. ⌜ Parsed (texts (now (words .entry))) r ⌝ }
+{
+    let Some(name) = first_named(words) else {
         return Err(WordError::NoShape);
     };
-    let Some(name) = shape_named(word.as_str()) else {
-        return Err(WordError::NoShape);
-    };
-    let all = numbers(heap, words)?;
-    match command_of(name, &all) {
-        Some(command) => Ok(command),
-        None => Err(WordError::WrongCount { sizes: name.sizes() }),
+    match numbers(heap, words) {
+        Ok(numbers) => match command_of(name, &numbers) {
+            Some(command) => Ok(command),
+            None => Err(WordError::WrongCount {
+                sizes: name.sizes(),
+            }),
+        },
+        Err(error) => Err(error),
     }
 }

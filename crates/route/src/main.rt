@@ -2,6 +2,8 @@
 // port, class, rank and next node, and then `arrived` and the number of hops.
 mod command;
 mod shape_name;
+#[cfg(test)]
+mod tests;
 mod trace_error;
 mod tracing;
 mod word_error;

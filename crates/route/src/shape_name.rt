@@ -51,9 +51,18 @@ impl ShapeName {
             ShapeName::Line => Shape::Line(Line { size: a }),
             ShapeName::Ring => Shape::Ring(Ring { size: a }),
             ShapeName::Tree => Shape::Tree(Tree { height: a, fat: b }),
-            ShapeName::Mesh => Shape::Mesh(Product { first: Line { size: a }, second: Line { size: b } }),
-            ShapeName::Torus => Shape::Torus(Product { first: Ring { size: a }, second: Ring { size: b } }),
-            ShapeName::Cylinder => Shape::Cylinder(Product { first: Ring { size: a }, second: Line { size: b } }),
+            ShapeName::Mesh => Shape::Mesh(Product {
+                first: Line { size: a },
+                second: Line { size: b },
+            }),
+            ShapeName::Torus => Shape::Torus(Product {
+                first: Ring { size: a },
+                second: Ring { size: b },
+            }),
+            ShapeName::Cylinder => Shape::Cylinder(Product {
+                first: Ring { size: a },
+                second: Line { size: b },
+            }),
         }
     }
 
@@ -65,7 +74,8 @@ impl ShapeName {
             ShapeName::Tree => "a tree has a height of 1 to 5 and a fat depth from 0 to its height",
             ShapeName::Mesh => "a mesh has two sizes of 2 or more and at most 64 nodes",
             ShapeName::Torus => "a torus has two sizes of 3 or more and at most 64 nodes",
-            ShapeName::Cylinder => "a cylinder has a ring of 3 or more, a line of 2 or more and at most 64 nodes",
+            ShapeName::Cylinder =>
+                "a cylinder has a ring of 3 or more, a line of 2 or more and at most 64 nodes",
         }
     }
 }

@@ -17,7 +17,10 @@ pub impl fmt::Display for TraceError as TraceErrorDisplay {
     fn fmt<W: fmt::Write>(&self, f: &mut fmt::Formatter<W>) -> fmt::Result {
         match *self {
             TraceError::Unusable { name } => f.write_str(name.size_rule()),
-            TraceError::NoNode { node, nodes } => write!(f, "{node} is no node: the network has {nodes} nodes, counted from 0"),
+            TraceError::NoNode { node, nodes } => write!(
+                f,
+                "{node} is no node: the network has {nodes} nodes, counted from 0"
+            ),
             TraceError::OutOfMemory => f.write_str("out of memory"),
         }
     }

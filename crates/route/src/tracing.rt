@@ -20,8 +20,14 @@ pub fn traced(heap: Global, command: &Command) -> Result<Vec<RouteStep>, TraceEr
     }
     match route(heap, &command.shape, command.start, command.end) {
         Ok(steps) => Ok(steps),
-        Err(RouteError::NoStart) => Err(TraceError::NoNode { node: command.start, nodes }),
-        Err(RouteError::NoEnd) => Err(TraceError::NoNode { node: command.end, nodes }),
+        Err(RouteError::NoStart) => Err(TraceError::NoNode {
+            node: command.start,
+            nodes,
+        }),
+        Err(RouteError::NoEnd) => Err(TraceError::NoNode {
+            node: command.end,
+            nodes,
+        }),
         Err(RouteError::OutOfMemory) => Err(TraceError::OutOfMemory),
     }
 }

@@ -1,4 +1,6 @@
 // Why words are no command.
+ghost use mathlib.Core.Path.{_≡_};
+ghost use Rattle.route.specs.declared.word_error.WordError.the-variants.{OutOfMemory};
 use std::alloc::Refused;
 use std::error::Error;
 use std::fmt;
@@ -12,6 +14,8 @@ pub enum WordError {
 }
 
 pub impl<T: Drop> From<Refused<T>> for WordError as WordErrorFromRefused {
+    ghost converts = { λ refused r. r ≡ OutOfMemory };
+
     fn from(_refused: Refused<T>) -> Self {
         WordError::OutOfMemory
     }
@@ -20,9 +24,17 @@ pub impl<T: Drop> From<Refused<T>> for WordError as WordErrorFromRefused {
 pub impl fmt::Display for WordError as WordErrorDisplay {
     fn fmt<W: fmt::Write>(&self, f: &mut fmt::Formatter<W>) -> fmt::Result {
         match *self {
-            WordError::NoShape => f.write_str("the first word must be line, ring, tree, mesh, torus or cylinder"),
-            WordError::NoNumber { place } => write!(f, "word {place} after the shape is not a number"),
-            WordError::WrongCount { sizes } => write!(f, "after the shape there must be its sizes, {sizes} of them, and two nodes"),
+            WordError::NoShape => f.write_str(
+                "the first word must be line, ring, tree, mesh, torus or cylinder",
+            ),
+            WordError::NoNumber { place } => write!(
+                f,
+                "word {place} after the shape is not a number"
+            ),
+            WordError::WrongCount { sizes } => write!(
+                f,
+                "after the shape there must be its sizes, {sizes} of them, and two nodes"
+            ),
             WordError::OutOfMemory => f.write_str("out of memory"),
         }
     }

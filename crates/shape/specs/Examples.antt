@@ -31,16 +31,16 @@ Every (x ∷ xs) = Holds x × Every xs
 
 abbrev pub examples : List Example
 examples =
-  escapes (ring 8) 6 1 (hop 0 0 7) 6
-  ∷ escapes (ring 8) 0 1 (hop 0 1 1) 8
-  ∷ escapes (ring 8) 2 6 (hop 0 1 3) 10
-  ∷ measures (tree 2 1) 3 6 4
-  ∷ escapes (tree 2 1) 3 6 (hop 0 0 1) 0
-  ∷ escapes (tree 2 1) 1 6 (hop 0 0 0) 1
-  ∷ escapes (tree 2 1) 0 6 (hop 4 0 2) 2
-  ∷ escapes (tree 2 1) 2 6 (hop 4 0 6) 3
-  ∷ links (tree 2 1) 1 1 (Some 0)
-  ∷ links (tree 2 1) 3 1 None
-  ∷ escapes (product (line 3) (ring 4)) 9 0 (hop 2 0 0) 6
-  ∷ counts (product (line 8) (line 9)) 0
-  ∷ []
+    escapes (ring 8) 6 1 (hop 0 0 7) 6
+    ∷ escapes (ring 8) 0 1 (hop 0 1 1) 8
+    ∷ escapes (ring 8) 2 6 (hop 0 1 3) 10
+    ∷ measures (tree 2 1) 3 6 4
+    ∷ escapes (tree 2 1) 3 6 (hop 0 0 1) 0
+    ∷ escapes (tree 2 1) 1 6 (hop 0 0 0) 1
+    ∷ escapes (tree 2 1) 0 6 (hop 4 0 2) 2
+    ∷ escapes (tree 2 1) 2 6 (hop 4 0 6) 3
+    ∷ links (tree 2 1) 1 1 (Some 0)
+    ∷ links (tree 2 1) 3 1 None
+    ∷ escapes (product (line 3) (ring 4)) 9 0 (hop 2 0 0) 6
+    ∷ counts (product (line 8) (line 9)) 0
+    ∷ []

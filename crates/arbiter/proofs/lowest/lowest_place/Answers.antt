@@ -1,0 +1,6 @@
+use mathlib.Core.Path.{refl}
+use Rattle.arbiter.proofs.Order.{first-lowest}
+use Rattle.arbiter.proofs.lowest.lowest_place.Needs as need
+
+pub returns : need.returns
+returns c = record { place = refl; kind = first-lowest (c .args .entries .now) }

@@ -1,0 +1,3 @@
+// Tables of questions for each kind of arbiter.
+#[cfg(test)]
+mod tests;
