@@ -12,6 +12,7 @@ pub use route_step::RouteErrorDebug;
 pub use route_step::RouteErrorPartialEq;
 pub use route_step::RouteStep;
 pub use route_step::RouteStepDebug;
+pub use route_step::RouteStepDisplay;
 pub use route_step::RouteStepPartialEq;
 pub use routes::route;
 pub use routing::Routing;

@@ -2,6 +2,7 @@
 ghost use mathlib.Core.Path.{_≡_};
 ghost use Rattle.network.specs.declared.route_step.RouteError.the-variants.{OutOfMemory};
 use std::alloc::Refused;
+use std::fmt;
 
 // One step of a route: from `node`, by an escape channel of this port, class and rank, to `next`.
 #[derive(Clone, Copy, PartialEq, Eq, Debug)]
@@ -11,6 +12,20 @@ pub struct RouteStep {
     pub class: usize,
     pub rank: usize,
     pub next: usize,
+}
+
+// A step is written as its five numbers, in the order of the fields.
+pub impl fmt::Display for RouteStep as RouteStepDisplay {
+    fn fmt<W: fmt::Write>(&self, f: &mut fmt::Formatter<W>) -> fmt::Result {
+        let RouteStep {
+            node,
+            port,
+            class,
+            rank,
+            next,
+        } = *self;
+        write!(f, "{node} {port} {class} {rank} {next}")
+    }
 }
 
 // Why a route is not traced: its start or its end is no node, or memory is out.

@@ -9,6 +9,7 @@ mod tracing;
 mod word_error;
 
 use command::parse;
+use network::RouteStepDisplay;
 use std::env;
 use std::error::AnyError;
 use std::io::BufWriter;
@@ -25,12 +26,7 @@ fn run(rt: &LibcRuntime) -> Result<(), AnyError> {
     let steps = traced(heap, &command)?;
     let mut out = BufWriter::new(rt.stdout());
     for step in &steps {
-        let node = step.node;
-        let port = step.port;
-        let class = step.class;
-        let rank = step.rank;
-        let next = step.next;
-        writeln!(out, "{node} {port} {class} {rank} {next}")?;
+        writeln!(out, "{step}")?;
     }
     let hops = steps.len();
     writeln!(out, "arrived {hops}")?;
