@@ -8,7 +8,7 @@ use crate::Arbiter;
 use crate::Entry;
 use crate::is_proper;
 
-// It remembers nothing.
+// Grants the first entry, and remembers nothing.
 #[derive(Clone, Copy, PartialEq, Eq, Debug)]
 pub struct Lowest;
 
@@ -18,7 +18,7 @@ pub impl Arbiter for Lowest as LowestArbiter {
     // Where it grants, no listed buffer is lower than the granted one.
     fn grant(&mut self, link: usize, entries: &[Entry]) -> Option<usize>
         ensures granted { λ r. ⌜ Granted lowest (now (self .entry)) (now (self .exit)) link (now (entries .entry)) r ⌝ }
-        ensures kind { λ r. ⌜ Cases r (Unit {0}) (NoneLower (now (entries .entry))) ⌝ }
+        ensures none_lower { λ r. ⌜ Cases r (Unit {0}) (NoneLower (now (entries .entry))) ⌝ }
     {
         if is_proper(link, entries) {
             Some(lowest_place(entries))
@@ -31,7 +31,7 @@ pub impl Arbiter for Lowest as LowestArbiter {
 // The place of the lowest buffer: the first, since the buffers rise.
 fn lowest_place(entries: &[Entry]) -> usize
     ensures place { λ r. ⌜ r ≡ 0 ⌝ }
-    ensures kind { λ r. ⌜ (Ordered (now (entries .entry)) → NoneLower (now (entries .entry)) r) ⌝ }
+    ensures none_lower { λ r. ⌜ (Ordered (now (entries .entry)) → NoneLower (now (entries .entry)) r) ⌝ }
 {
     0
 }

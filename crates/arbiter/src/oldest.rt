@@ -5,12 +5,12 @@ ghost use lib.Dec.{ltb};
 ghost use lib.ListN.{length};
 ghost use Rattle.std.specs.Options.{Cases};
 ghost use Rattle.arbiter.specs.Rule.{Granted};
-ghost use Rattle.arbiter.specs.Oldest.{oldest, oldestPlace, NoneOlder};
+ghost use Rattle.arbiter.specs.Oldest.{oldest, oldest-place, NoneOlder};
 use crate::Arbiter;
 use crate::Entry;
 use crate::is_proper;
 
-// The older of two packets is the one with the lower number. It remembers nothing.
+// Grants the lowest packet number, which is the oldest packet, and remembers nothing.
 #[derive(Clone, Copy, PartialEq, Eq, Debug)]
 pub struct Oldest;
 
@@ -20,7 +20,7 @@ pub impl Arbiter for Oldest as OldestArbiter {
     // Where it grants, no listed packet is older than the granted one, and of equals none stands earlier.
     fn grant(&mut self, link: usize, entries: &[Entry]) -> Option<usize>
         ensures granted { λ r. ⌜ Granted oldest (now (self .entry)) (now (self .exit)) link (now (entries .entry)) r ⌝ }
-        ensures kind { λ r. ⌜ Cases r (Unit {0}) (NoneOlder (now (entries .entry))) ⌝ }
+        ensures none_older { λ r. ⌜ Cases r (Unit {0}) (NoneOlder (now (entries .entry))) ⌝ }
     {
         if is_proper(link, entries) {
             Some(oldest_place(entries))
@@ -32,8 +32,8 @@ pub impl Arbiter for Oldest as OldestArbiter {
 
 // The place of the oldest packet, the first of equals; 0 in an empty list.
 fn oldest_place(entries: &[Entry]) -> usize
-    ensures place { λ r. ⌜ r ≡ oldestPlace (now (entries .entry)) ⌝ }
-    ensures kind { λ r. ⌜ (0 < length (now (entries .entry)) → NoneOlder (now (entries .entry)) r) ⌝ }
+    ensures place { λ r. ⌜ r ≡ oldest-place (now (entries .entry)) ⌝ }
+    ensures none_older { λ r. ⌜ (0 < length (now (entries .entry)) → NoneOlder (now (entries .entry)) r) ⌝ }
 {
     let mut best = 0;
     for (i, entry) in entries.iter().enumerate() {

@@ -10,7 +10,8 @@ pub const LINKS: usize = 448;
 // Buffer numbers are under this, and so no proper list is longer.
 const BUFFERS: usize = 2048;
 
-// Whether the list is proper: the link number is in range, and there are entries, not too many, in order. One pass.
+// Whether the list is proper: the link number is under 448, and there are 1 to 2,048 entries, whose buffer numbers rise
+// strictly and are under 2,048. One pass.
 pub fn is_proper(link: usize, entries: &[Entry]) -> bool
     ensures { λ r. ⌜ Decides r (Proper link (now (entries .entry))) ⌝ }
 {

@@ -4,9 +4,9 @@ ghost use Prim.Native.Nat.{ℕ, _<_};
 ghost use lib.ListN.{length, getD, replicate};
 ghost use Rattle.std.specs.Options.{Cases};
 ghost use Rattle.std.specs.declared.option.Option.the-variants.{None};
-ghost use Rattle.arbiter.specs.Proper.{Ordered, bufferAt};
+ghost use Rattle.arbiter.specs.Proper.{Ordered, buffer-at, link-limit};
 ghost use Rattle.arbiter.specs.Rule.{Granted};
-ghost use Rattle.arbiter.specs.Rotating.{rotating, above, firstAbove, lastOn, remember, Remembered, NoneBetween, Rotated};
+ghost use Rattle.arbiter.specs.Rotating.{rotating, above, first-above, last-on, remember, Remembered, NoneBetween, Rotated};
 use crate::Arbiter;
 use crate::Entry;
 use crate::LINKS;
@@ -21,15 +21,15 @@ pub struct Rotating {
 impl Rotating {
     // No link was granted yet.
     pub fn new() -> Self
-        ensures state { λ r. ⌜ r .last ≡ replicate 448 None ⌝ }
-        ensures kind { λ r. ⌜ ((link : ℕ) → lastOn r link ≡ None) ⌝ }
+        ensures state { λ r. ⌜ r .last ≡ replicate link-limit None ⌝ }
+        ensures nothing_granted { λ r. ⌜ ((link : ℕ) → last-on r link ≡ None) ⌝ }
     {
-        Rotating { last: no_memory() }
+        Rotating { last: nothing_granted() }
     }
 
     // Remembers a buffer for this link, and for no other.
     fn remember(&mut self, link: usize, buffer: u16)
-        requires { ⌜ link < 448 ⌝ }
+        requires { ⌜ link < link-limit ⌝ }
         ensures state { λ _. ⌜ now (self .exit) ≡ remember (now (self .entry)) link buffer ⌝ }
         ensures remembered { λ _. ⌜ Remembered (now (self .entry)) (now (self .exit)) link buffer ⌝ }
     {
@@ -44,7 +44,7 @@ pub impl Arbiter for Rotating as RotatingArbiter {
     // up and round, and the granted one is then the last on this link. The other links keep theirs.
     fn grant(&mut self, link: usize, entries: &[Entry]) -> Option<usize>
         ensures granted { λ r. ⌜ Granted rotating (now (self .entry)) (now (self .exit)) link (now (entries .entry)) r ⌝ }
-        ensures kind { λ r. ⌜ Cases r (Unit {0}) (Rotated (now (self .entry)) (now (self .exit)) link (now (entries .entry))) ⌝ }
+        ensures rotated { λ r. ⌜ Cases r (Unit {0}) (Rotated (now (self .entry)) (now (self .exit)) link (now (entries .entry))) ⌝ }
     {
         if !is_proper(link, entries) {
             return None;
@@ -56,18 +56,18 @@ pub impl Arbiter for Rotating as RotatingArbiter {
 }
 
 // Nothing is remembered for any link.
-fn no_memory() -> [Option<u16>; LINKS]
-    ensures state { λ r. ⌜ r ≡ replicate 448 None ⌝ }
-    ensures kind { λ r. ⌜ ((link : ℕ) → getD r link None ≡ None) ⌝ }
+fn nothing_granted() -> [Option<u16>; LINKS]
+    ensures state { λ r. ⌜ r ≡ replicate link-limit None ⌝ }
+    ensures all_none { λ r. ⌜ ((link : ℕ) → getD r link None ≡ None) ⌝ }
 {
     [None; LINKS]
 }
 
 // The place of the first entry above `last`, and 0 where there is none.
 fn first_above(last: Option<u16>, entries: &[Entry]) -> usize
-    ensures place { λ r. ⌜ r ≡ firstAbove last 0 (now (entries .entry)) ⌝ }
+    ensures place { λ r. ⌜ r ≡ first-above last 0 (now (entries .entry)) ⌝ }
     ensures within { λ r. ⌜ (0 < length (now (entries .entry)) → r < length (now (entries .entry))) ⌝ }
-    ensures kind { λ r. ⌜ (Ordered (now (entries .entry)) → NoneBetween last (now (entries .entry)) r) ⌝ }
+    ensures none_between { λ r. ⌜ (Ordered (now (entries .entry)) → NoneBetween last (now (entries .entry)) r) ⌝ }
 {
     for (i, entry) in entries.iter().enumerate() {
         if is_above(entry.buffer, last) {
@@ -91,7 +91,7 @@ fn is_above(buffer: usize, last: Option<u16>) -> bool
 fn buffer_at(entries: &[Entry], place: usize) -> u16
     requires ordered { ⌜ Ordered (now entries) ⌝ }
     requires within { ⌜ place < length (now entries) ⌝ }
-    ensures { λ r. ⌜ r ≡ bufferAt (now (entries .entry)) place ⌝ }
+    ensures { λ r. ⌜ r ≡ buffer-at (now (entries .entry)) place ⌝ }
 {
     entries[place].buffer as u16
 }

@@ -7,7 +7,7 @@ returns-then-is-above c =
     record {
       place = e;
       within = above-within (c .args .last) (c .args .entries .now) (c .loop-i .i) e;
-      kind = above-between (c .args .last) (c .args .entries .now) (c .loop-i .i) e;
+      none-between = above-between (c .args .last) (c .args .entries .now) (c .loop-i .i) e;
     }
 
 pub loop-i-again : need.loop-i-again
@@ -20,5 +20,5 @@ returns c =
     record {
       place = e;
       within = above-within (c .args .last) (c .args .entries .now) 0 e;
-      kind = above-between (c .args .last) (c .args .entries .now) 0 e;
+      none-between = above-between (c .args .last) (c .args .entries .now) 0 e;
     }
