@@ -24,7 +24,9 @@ impl Rotating {
         ensures state { λ r. ⌜ r .last ≡ replicate link-limit None ⌝ }
         ensures nothing_granted { λ r. ⌜ ((link : ℕ) → last-on r link ≡ None) ⌝ }
     {
-        Rotating { last: nothing_granted() }
+        Rotating {
+            last: nothing_granted(),
+        }
     }
 
     // Remembers a buffer for this link, and for no other.

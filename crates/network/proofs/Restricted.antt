@@ -127,16 +127,7 @@ module _ (rule : Network) where
   restrict-lawful sizes law =
       let s = agree-sound rule (restrict rule) restrict-agrees law in
       record {
-        sizes = λ z. record {
-          nodes-low = sizes .nodes-low;
-          nodes-high = sizes .nodes-high;
-          ports-low = sizes .ports-low;
-          ports-high = sizes .ports-high;
-          classes-low = sizes .classes-low;
-          classes-high = sizes .classes-high;
-          ceiling-low = sizes .ceiling-low;
-          ceiling-high = sizes .ceiling-high;
-        };
+        sizes = λ z. sizes;
         distances = s .distances;
         steps = s .steps;
         escapes = s .escapes;

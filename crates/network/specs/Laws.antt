@@ -7,16 +7,19 @@ use Rattle.std.specs.declared.option.Option.the-variants.{None, Some}
 use Rattle.network.specs.declared.hop.Hop.{Hop}
 use Rattle.network.specs.Network.{Network}
 
--- Law 1. The sizes of a network that is of use.
-pub record Sizes (net : Network) : Type 0 where
-  pub nodes-low : 2 ≤ net .nodes
-  pub nodes-high : net .nodes ≤ 64
-  pub ports-low : 1 ≤ net .ports
-  pub ports-high : net .ports ≤ 6
-  pub classes-low : 1 ≤ net .classes
-  pub classes-high : net .classes ≤ 2
-  pub ceiling-low : 1 ≤ net .ceiling
-  pub ceiling-high : net .ceiling ≤ 2 * net .nodes
+-- Law 1. The four numbers of a network that is of use.
+pub record Sized (nodes ports classes ceiling : ℕ) : Type 0 where
+  pub nodes-low : 2 ≤ nodes
+  pub nodes-high : nodes ≤ 64
+  pub ports-low : 1 ≤ ports
+  pub ports-high : ports ≤ 6
+  pub classes-low : 1 ≤ classes
+  pub classes-high : classes ≤ 2
+  pub ceiling-low : 1 ≤ ceiling
+  pub ceiling-high : ceiling ≤ 2 * nodes
+
+abbrev pub Sizes : Network → Type 0
+Sizes net = Sized (net .nodes) (net .ports) (net .classes) (net .ceiling)
 
 -- Law 2. A distance is under the number of nodes, and 0 exactly from a node to itself.
 pub record Distances (net : Network) : Type 0 where

@@ -2,3 +2,4 @@ pub mod Network
 pub mod Laws
 pub mod Walks
 pub mod Routes
+pub mod Texts

@@ -1,6 +1,8 @@
 // What a traced route is made of, and why there may be none.
 ghost use mathlib.Core.Path.{_≡_};
+ghost use Rattle.std.specs.declared.option.Option.the-variants.{Some};
 ghost use Rattle.network.specs.declared.route_step.RouteError.the-variants.{OutOfMemory};
+ghost use Rattle.network.specs.Texts.{step-text};
 use std::alloc::Refused;
 use std::fmt;
 
@@ -16,6 +18,8 @@ pub struct RouteStep {
 
 // A step is written as its five numbers, in the order of the fields.
 pub impl fmt::Display for RouteStep as RouteStepDisplay {
+    ghost shown = { λ s. Some (step-text s) };
+
     fn fmt<W: fmt::Write>(&self, f: &mut fmt::Formatter<W>) -> fmt::Result {
         let RouteStep {
             node,

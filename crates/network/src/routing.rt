@@ -4,8 +4,8 @@ ghost use Rattle.network.specs.Network.{Network};
 ghost use Rattle.network.specs.Laws.{Lawful, Bounds, Follows};
 use crate::Hop;
 
-// A routing is told by its meaning, a network that keeps the laws. Every method answers as the meaning says, for every
-// argument: out of range, and from a node to itself, there is no link and no escape, and distance and rank are 0.
+// A routing means a network that keeps the laws. Every method answers as the meaning says, for every argument: out of
+// range there is no link and no escape, and distance and rank are 0; from a node to itself there is no escape.
 pub trait Routing {
     ghost meaning: { Self → Network };
 
@@ -40,7 +40,7 @@ pub trait Routing {
     fn distance(&self, n: usize, d: usize) -> usize
         ensures { λ r. ⌜ r ≡ meaning (now (self .entry)) .distance n d ⌝ };
 
-    // The escape channel that a packet at `n` for `d` can always wait for, and the node where it leads.
+    // The escape channel from `n` towards `d`, and the node where it leads.
     fn escape(&self, n: usize, d: usize) -> Option<Hop>
         ensures { λ r. ⌜ r ≡ meaning (now (self .entry)) .escape n d ⌝ };
 

@@ -10,6 +10,10 @@ use relabelling::Relabelling;
 use relabelling::RelabellingRouting;
 use ring::Ring;
 use ring::RingRouting;
+use shape::Shape;
+use shape::ShapeRouting;
+use shape::Topology;
+use shape::TopologyRouting;
 use std::test::*;
 use tree::Tree;
 use tree::TreeRouting;
@@ -191,6 +195,28 @@ fn relabellings() -> Result<(), Fail> {
                     labelling,
                 },
             ).note("a tree with labels")
+        }
+        Err(_) => Err(Fail::new("the bytes are a labelling")),
+    }
+}
+
+#[test]
+fn topologies() -> Result<(), Fail> {
+    let shape = Shape::Cylinder(Product {
+        first: Ring { size: 3 },
+        second: Line { size: 2 },
+    });
+    check_laws(&Topology::Plain(shape)).note("a cylinder")?;
+    match Labelling::new(&[4, 0, 5, 3, 1, 2]) {
+        Ok(labelling) => {
+            let relabelled = Topology::Relabelled(Relabelling {
+                routing: shape,
+                labelling,
+            });
+            check_laws(&relabelled).note("a cylinder with labels")?;
+            check_eq(relabelled.link(1, 0), Some(4)).note(
+                "position 1, which label 4 has, is next to position 0",
+            )
         }
         Err(_) => Err(Fail::new("the bytes are a labelling")),
     }

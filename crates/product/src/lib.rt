@@ -5,8 +5,8 @@ ghost use Rattle.product.specs.Products.{product, product-sized};
 use network::Hop;
 use network::Routing;
 
-// With a nodes in the first part, node n stands in column n % a and row n / a. The product is unusable if a part is, or
-// if it has more than 64 nodes or 6 ports.
+// With w nodes in the first part, node n stands in column n % w and row n / w. Usable where both parts are, with at most
+// 64 nodes and 6 ports.
 #[derive(Clone, Copy, PartialEq, Eq, Debug)]
 pub struct Product<X, Y> {
     pub first: X,

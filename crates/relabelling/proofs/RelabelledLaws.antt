@@ -1,4 +1,4 @@
--- A lawful network whose nodes are told by labels is lawful. Assumes nothing.
+-- A lawful network whose nodes are named by labels is lawful. Assumes nothing.
 use mathlib.Core.Path.{_≡_, refl, sym, ap, subst, _∙_}
 use mathlib.Core.List.{List}
 use mathlib.Core.Bool.{true, cond}
@@ -6,18 +6,19 @@ use mathlib.Core.Logic.{_≢_, _⊎_, inl, inr}
 use Prim.Native.Nat.{ℕ, zero, suc, _+_, _≤_, _<_}
 use native.Mathlib.Omega.{arith}
 use native.Mathlib.Numerals.{add-one}
-use lib.Dec.{eqb}
+use lib.Dec.{ltb, eqb}
 use lib.ListN.{getD}
 use Rattle.std.specs.Options.{mapped}
 use Rattle.std.specs.declared.option.Option.{Option}
 use Rattle.std.specs.declared.option.Option.the-variants.{None, Some}
-use Rattle.std.proofs.shelf.Tests.{cases-lt, cases-eq, cases-order, eqb-true, eq-eqb, ne-eqb}
+use Rattle.std.proofs.shelf.Tests.{cases-lt, cases-eq, cases-order, and-parts, ltb-true, eqb-true, eq-eqb, ne-eqb}
 use Rattle.network.specs.declared.hop.Hop.{Hop}
 use Rattle.network.specs.Network.{Network}
-use Rattle.network.specs.Laws.{Leads, Rises, Sizes, Lawful}
+use Rattle.network.specs.Laws.{Leads, Rises, Lawful}
 use Rattle.network.proofs.Options.{mapped-some}
 use Rattle.network.proofs.Consequences.{link-asked, hop-node, hop-rises}
 use Rattle.network.proofs.Restricted.{Sound, usable-lawful}
+use Rattle.relabelling.specs.declared.labelling.Labelling.{Labelling}
 use Rattle.relabelling.specs.Relabels.{label-of, hop-labelled, relabelled-rule, relabelled-sized, relabelled}
 
 pub label-next : (xs : List ℕ) (k x : ℕ) → label-of xs (k + 1) x ≡ cond (eqb (getD xs k 0) x) k (label-of xs k x)
@@ -167,21 +168,9 @@ module _ (count : ℕ) (xs : List ℕ) (within : (i : ℕ) → i < count → get
           rw (w .2) (back (w .0) (link-asked net law (position n) p (w .0) (w .1) .2) .0);
     }
 
-    relabelled-sizes : 2 ≤ count → Sizes rule
-    relabelled-sizes some =
-        let z = law .sizes (omega arith) in
-        record {
-          nodes-low = z .nodes-low;
-          nodes-high = z .nodes-high;
-          ports-low = z .ports-low;
-          ports-high = z .ports-high;
-          classes-low = z .classes-low;
-          classes-high = z .classes-high;
-          ceiling-low = z .ceiling-low;
-          ceiling-high = z .ceiling-high;
-        }
-
-  pub relabelled-lawful : 2 ≤ count → (net : Network) → Lawful net → Lawful (relabelled count xs net)
-  relabelled-lawful some net law = usable-lawful (relabelled-sized count net) (relabelled-rule count xs net)
-      (λ good. relabelled-sizes net law (eqb-true (net .nodes) count good) some)
-      (λ good. relabelled-sound net law (eqb-true (net .nodes) count good))
+pub relabelled-lawful : (l : Labelling) (net : Network) → Lawful net → Lawful (relabelled l net)
+relabelled-lawful l net law =
+    let both = and-parts (ltb 0 (net .nodes)) (eqb (net .nodes) (l .count)) in
+    usable-lawful (relabelled-sized (l .count) net) (relabelled-rule (l .count) (l .positions) net)
+    (λ good. law .sizes (ltb-true 0 (net .nodes) (both good .0)))
+    (λ good. relabelled-sound (l .count) (l .positions) (l .within) (l .once) net law (eqb-true (net .nodes) (l .count) (both good .1)))

@@ -13,7 +13,7 @@ use Rattle.relabelling.specs.declared.refusal.LabellingRefusal.the-variants.{C
 abbrev pub Counted : List ℕ → Type 0
 Counted xs = (2 ≤ length xs) × (length xs ≤ 64)
 
--- Each of the first k is under their number,
+-- Each of the first k is less than the number of all,
 abbrev pub WithinBelow : ℕ → List ℕ → Type 0
 WithinBelow k xs = (i : ℕ) → i < k → getD xs i 0 < length xs
 
@@ -27,7 +27,7 @@ OnceBelow k xs = (i j : ℕ) → i < j → j < k → getD xs i 0 ≡ getD xs j 0
 abbrev pub Once : List ℕ → Type 0
 Once xs = OnceBelow (length xs) xs
 
--- i is the first that is not under their number
+-- i is the first that is not less than their number
 pub record Outsider (xs : List ℕ) (i : ℕ) : Type 0 where
   pub label-in : i < length xs
   pub position-out : length xs ≤ getD xs i 0

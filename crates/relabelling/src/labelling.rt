@@ -1,4 +1,4 @@
-// A labelling lists for each label its position, each position once.
+// A labelling is a permutation of nodes: each label has a position, and no two share one.
 ghost use mathlib.Core.Path.{_≡_};
 ghost use Prim.Native.Nat.{ℕ, _<_, _≤_};
 ghost use lib.ListN.{getD};

@@ -1,4 +1,4 @@
-// Labellings of positions, and a routing whose nodes are told by their labels.
+// Labellings, and routings whose nodes are named by their labels.
 mod labelling;
 mod refusal;
 mod relabelling;

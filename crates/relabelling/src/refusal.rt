@@ -6,9 +6,9 @@ ghost use Rattle.relabelling.specs.Refusals.{refusal-number};
 pub enum LabellingRefusal {
     // There are not 2 to 64 bytes, but `count`.
     Count { count: usize },
-    // The position of `label`, the first of its kind, is not under the number of bytes.
+    // `position`, that of `label`, is not less than the number of bytes; it is the first such label.
     Outside { label: usize, position: usize },
-    // Label `second`, the first of its kind, has the position that `first` has already.
+    // `second` is the first label whose position another has before it, and `first` is that one.
     Repeated { first: usize, second: usize },
 }
 

@@ -1,13 +1,12 @@
-// A routing whose nodes are told by their labels.
-ghost use mathlib.Core.Bool.{Bool};
+// A routing whose nodes are named by their labels.
 ghost use mathlib.Core.Path.{_≡_};
 ghost use Rattle.relabelling.specs.Relabels.{relabelled, relabelled-sized};
 use crate::Labelling;
 use network::Hop;
 use network::Routing;
 
-// Node i stands at the position of label i in `routing`. Unusable if `routing` is, or has another number of nodes than
-// there are labels.
+// Node i is the node of `routing` at the position of label i. Usable where `routing` is and has as many nodes as there are
+// labels.
 #[derive(Clone, Copy)]
 pub struct Relabelling<X> {
     pub routing: X,
@@ -15,7 +14,7 @@ pub struct Relabelling<X> {
 }
 
 impl<X: Routing> Relabelling<X> {
-    // Whether there are as many labels as nodes; there are at least 2 labels.
+    // Whether there are as many labels as nodes. There are at least 2 labels, so the routing is usable then.
     fn is_usable(&self) -> bool
         ensures { λ r. ⌜ r ≡ relabelled-sized (now (self .entry) .labelling .count) (X·Routing .meaning (now (self .entry) .routing)) ⌝ }
     {
@@ -24,7 +23,7 @@ impl<X: Routing> Relabelling<X> {
 }
 
 pub impl<X: Routing> Routing for Relabelling<X> as RelabellingRouting {
-    ghost meaning = { λ x. relabelled (x .labelling .count) (x .labelling .positions) (X·Routing .meaning (x .routing)) };
+    ghost meaning = { λ x. relabelled (x .labelling) (X·Routing .meaning (x .routing)) };
 
     fn nodes(&self) -> usize {
         if self.is_usable() {

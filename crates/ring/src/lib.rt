@@ -51,7 +51,7 @@ pub impl Routing for Ring as RingRouting {
         if self.is_usable() { 2 * self.size } else { 0 }
     }
 
-    // Port 0 leads up and port 1 down, each once round.
+    // Port 0 leads up and port 1 down; the last node and node 0 are neighbours.
     fn link(&self, n: usize, p: usize) -> Option<usize> {
         let nodes = self.nodes();
         if n >= nodes || p >= PORTS {
@@ -73,8 +73,8 @@ pub impl Routing for Ring as RingRouting {
         }
     }
 
-    // The shorter way, up where both are equal. A packet that still has to pass the seam between the last node and node 0
-    // takes class 0, and class 1 once it has passed or need not, so that no cycle of channels is closed.
+    // The shorter way, up where both are equal. A packet whose way still crosses the dateline, between the last node and
+    // node 0, takes class 0, and any other class 1, so that the channels on no way close a circle.
     fn escape(&self, n: usize, d: usize) -> Option<Hop> {
         let nodes = self.nodes();
         if n >= nodes || d >= nodes || n == d {

@@ -48,7 +48,7 @@ pub record Numbers (words : List (List ℕ)) (xs : List ℕ) : Type 0 where
   pub count : length words ≡ length xs + 1
   pub written : Written words (length xs) xs
 
--- the word at the place is the first after the first that writes no number
+-- of the words after the first, the one at the place is the earliest that writes no number
 pub record NoneAt (words : List (List ℕ)) (place : ℕ) : Type 0 where
   pub after-first : 0 < place
   pub inside : place < length words

@@ -69,7 +69,8 @@ fn first_named(words: &[String]) -> Option<ShapeName>
     shape_named(words[0].as_str())
 }
 
-// The command that the words are: the name of a shape, its sizes, and the two nodes.
+// The command that the words are: the name of a shape, its sizes, and the two nodes; or why they are none. It is asked
+// first whether the first word names a shape, then whether the others are numbers, then whether there are enough.
 pub fn parse(heap: Global, words: &[String]) -> Result<Command, WordError>
     ensures { λ r. ⌜ Parsed (texts (now (words .entry))) r ⌝ }
 {

@@ -65,17 +65,4 @@ impl ShapeName {
             }),
         }
     }
-
-    // Which sizes make a shape of this name usable.
-    pub fn size_rule(self) -> &'static str {
-        match self {
-            ShapeName::Line => "a line has 2 to 64 nodes",
-            ShapeName::Ring => "a ring has 3 to 64 nodes",
-            ShapeName::Tree => "a tree has a height of 1 to 5 and a fat depth from 0 to its height",
-            ShapeName::Mesh => "a mesh has two sizes of 2 or more and at most 64 nodes",
-            ShapeName::Torus => "a torus has two sizes of 3 or more and at most 64 nodes",
-            ShapeName::Cylinder =>
-                "a cylinder has a ring of 3 or more, a line of 2 or more and at most 64 nodes",
-        }
-    }
 }

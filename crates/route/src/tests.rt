@@ -114,6 +114,7 @@ fn bad_sizes(rt: LibcRuntime) -> Result<(), Fail> {
     for (line, name, sentence) in [
         ("line 1 0 0", ShapeName::Line, "a line has 2 to 64 nodes"),
         ("ring 2 0 1", ShapeName::Ring, "a ring has 3 to 64 nodes"),
+        ("ring 2 0 0", ShapeName::Ring, "a ring has 3 to 64 nodes"),
         (
             "tree 2 3 0 1",
             ShapeName::Tree,
@@ -142,16 +143,20 @@ fn bad_sizes(rt: LibcRuntime) -> Result<(), Fail> {
 
 #[test]
 fn bad_nodes(rt: LibcRuntime) -> Result<(), Fail> {
-    check_trace(
-        rt.alloc(),
-        "ring 8 8 9",
-        TraceError::NoNode { node: 8, nodes: 8 },
-        "8 is no node: the network has 8 nodes, counted from 0",
-    )?;
-    check_trace(
-        rt.alloc(),
-        "ring 8 7 9",
-        TraceError::NoNode { node: 9, nodes: 8 },
-        "9 is no node: the network has 8 nodes, counted from 0",
-    )
+    let nodes = 8;
+    let eight = "8 is no node: the network has 8 nodes, counted from 0";
+    let nine = "9 is no node: the network has 8 nodes, counted from 0";
+    for (line, node, sentence) in [
+        ("ring 8 8 9", 8, eight),
+        ("ring 8 7 9", 9, nine),
+        ("ring 8 9 9", 9, nine),
+    ] {
+        check_trace(
+            rt.alloc(),
+            line,
+            TraceError::NoNode { node, nodes },
+            sentence,
+        )?;
+    }
+    Ok(())
 }

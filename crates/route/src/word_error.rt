@@ -7,8 +7,11 @@ use std::fmt;
 
 #[derive(Clone, Copy, PartialEq, Eq, Debug)]
 pub enum WordError {
+    // The first word names no shape, or there is none.
     NoShape,
+    // The word at `place`, counted from the shape's at 0, is the first that is no number.
     NoNumber { place: usize },
+    // There are more or fewer numbers than the shape's `sizes` and two nodes.
     WrongCount { sizes: usize },
     OutOfMemory,
 }

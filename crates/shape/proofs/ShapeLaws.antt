@@ -10,7 +10,7 @@ use Rattle.shape.specs.declared.shapes.Shape.the-variants.{Line, Ring, Tree, M
 use Rattle.shape.specs.declared.topology.Topology.{Topology}
 use Rattle.shape.specs.declared.topology.Topology.the-variants.{Plain, Relabelled}
 use Rattle.shape.specs.Shapes.{shaped}
-use Rattle.shape.specs.Topologies.{laid-out}
+use Rattle.shape.specs.Topologies.{topology-network}
 
 pub shape-lawful : (s : Shape) → Lawful (shaped s)
 shape-lawful (Line x) = line-lawful (x .size)
@@ -20,8 +20,6 @@ shape-lawful (Mesh x) = product-lawful _ _ (line-lawful (x .first .size)) (line-
 shape-lawful (Torus x) = product-lawful _ _ (ring-lawful (x .first .size)) (ring-lawful (x .second .size))
 shape-lawful (Cylinder x) = product-lawful _ _ (ring-lawful (x .first .size)) (line-lawful (x .second .size))
 
-pub topology-lawful : (t : Topology) → Lawful (laid-out t)
+pub topology-lawful : (t : Topology) → Lawful (topology-network t)
 topology-lawful (Plain x) = shape-lawful x
-topology-lawful (Relabelled x) =
-    let l = x .labelling in
-    relabelled-lawful (l .count) (l .positions) (l .within) (l .once) (l .few .0) (shaped (x .routing)) (shape-lawful (x .routing))
+topology-lawful (Relabelled x) = relabelled-lawful (x .labelling) (shaped (x .routing)) (shape-lawful (x .routing))

@@ -5,6 +5,6 @@ use Rattle.shape.specs.declared.topology.Topology.{Topology}
 use Rattle.shape.specs.declared.topology.Topology.the-variants.{Plain, Relabelled}
 use Rattle.shape.specs.Shapes.{shaped}
 
-abbrev pub laid-out : Topology → Network
-laid-out (Plain x) = shaped x
-laid-out (Relabelled x) = relabelled (x .labelling .count) (x .labelling .positions) (shaped (x .routing))
+abbrev pub topology-network : Topology → Network
+topology-network (Plain x) = shaped x
+topology-network (Relabelled x) = relabelled (x .labelling) (shaped (x .routing))

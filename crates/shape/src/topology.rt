@@ -1,5 +1,5 @@
 // A shape, with labels or without.
-ghost use Rattle.shape.specs.Topologies.{laid-out};
+ghost use Rattle.shape.specs.Topologies.{topology-network};
 use crate::Shape;
 use crate::shapes::ShapeRouting;
 use network::Hop;
@@ -14,7 +14,7 @@ pub enum Topology {
 }
 
 pub impl Routing for Topology as TopologyRouting {
-    ghost meaning = { laid-out };
+    ghost meaning = { topology-network };
 
     fn nodes(&self) -> usize {
         match self {

@@ -64,7 +64,7 @@ pub distance-right : (n d : ℕ) → n < d → tree-distance n d ≡ suc (tree-d
 unfolding tree-distance
 distance-right n d h = enough (n + d) (suc (n + d)) n d (omega arith) (omega arith) ∙ climb-right (n + d) n d h ∙ ap suc (enough (n + d) (n + parent d) n (parent d) (omega arith) (omega arith))
 
--- between two nodes that differ, from the parent of the larger to the smaller
+-- between two nodes that differ, one hop more than where the larger has climbed to its parent
 pub distance-step : (n d : ℕ) → n ≢ d → tree-distance n d ≡ suc (tree-distance (parent (max n d)) (min n d))
 unfolding tree-distance
 distance-step n d c = enough (n + d) (suc (n + d)) n d (omega arith) (omega arith) ∙ climb-step (n + d) n d c ∙ ap suc (enough (n + d) (parent (max n d) + min n d) (parent (max n d)) (min n d) (omega arith) (omega arith))

@@ -67,10 +67,10 @@ link-way-at nodes n p m extra l = elim (cases-lt p 2) [
 ]
 
 -- the heights and their numbers of nodes
-abbrev Shape : ℕ → ℕ → Type 0
-Shape height nodes = ((height ≡ 1) × (nodes ≡ 3)) ⊎ (((height ≡ 2) × (nodes ≡ 7)) ⊎ (((height ≡ 3) × (nodes ≡ 15)) ⊎ (((height ≡ 4) × (nodes ≡ 31)) ⊎ ((height ≡ 5) × (nodes ≡ 63)))))
+abbrev Heights : ℕ → ℕ → Type 0
+Heights height nodes = ((height ≡ 1) × (nodes ≡ 3)) ⊎ (((height ≡ 2) × (nodes ≡ 7)) ⊎ (((height ≡ 3) × (nodes ≡ 15)) ⊎ (((height ≡ 4) × (nodes ≡ 31)) ⊎ ((height ≡ 5) × (nodes ≡ 63)))))
 
-module _ (nodes height fat : ℕ) (shape : Shape height nodes) where
+module _ (nodes height fat : ℕ) (of-height : Heights height nodes) where
   abbrev rule : Network
   rule = tree-rule nodes height fat
 
@@ -201,8 +201,8 @@ module _ (nodes height fat : ℕ) (shape : Shape height nodes) where
   }
 
 -- a height from 1 to 5 is one of five
-shapes : (h f : ℕ) → tree-sized h f ≡ true → Shape h (2 ^ (h + 1) - 1)
-shapes h f good =
+heights : (h f : ℕ) → tree-sized h f ≡ true → Heights h (2 ^ (h + 1) - 1)
+heights h f good =
     let t = and-parts (leb 1 h) (leb h 5 && leb f h) good in
     let lo = leb-true 1 h (t .0) in
     let hi = leb-true h 5 (and-parts (leb h 5) (leb f h) (t .1) .0) in
@@ -222,5 +222,5 @@ shapes h f good =
 
 pub tree-lawful : (h f : ℕ) → Lawful (tree h f)
 tree-lawful h f = usable-lawful (tree-sized h f) (tree-rule (2 ^ (h + 1) - 1) h f)
-    (λ good. rule-sizes (2 ^ (h + 1) - 1) h f (shapes h f good))
-    (λ good. rule-sound (2 ^ (h + 1) - 1) h f (shapes h f good))
+    (λ good. rule-sizes (2 ^ (h + 1) - 1) h f (heights h f good))
+    (λ good. rule-sound (2 ^ (h + 1) - 1) h f (heights h f good))

@@ -18,7 +18,7 @@ deepest n (suc t) = cond (leb (2 ^ suc t - 1) n) (suc t) (deepest n t)
 abbrev pub depth : ℕ → ℕ
 depth n = deepest n 5
 
--- 0 from a node to itself, else one more than from the parent of the larger to the smaller.
+-- 0 from a node to itself; else the larger climbs one hop to its parent, and so on from there.
 -- The sum of the two falls at each step, so no more steps than that are taken.
 unfoldable pub climb : ℕ → ℕ → ℕ → ℕ
 climb zero n d = 0
@@ -51,8 +51,8 @@ far-end-stands nodes n p = cond (ltb p 2) (ltb 0 n) (ltb (far-end n p) nodes)
 abbrev pub upper-end : ℕ → ℕ → ℕ
 upper-end n p = cond (ltb p 2) (parent n) n
 
--- Ports 1, 3 and 5 have a link only where the upper end has a depth under `fat`. Escape goes down towards d where n is
--- an ancestor of d, and else up. Ranks fall with the depth on the way up, and rise with it on the way down.
+-- The odd ports are second links, there only where the upper end is less deep than `fat`. From an ancestor of d escape
+-- goes down into the subtree that holds d, and from any other node up. Ranks fall with the depth on the way up, and rise with it on the way down.
 abbrev pub tree-rule : ℕ → ℕ → ℕ → Network
 tree-rule nodes height fat = record {
   nodes = nodes;

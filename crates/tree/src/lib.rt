@@ -56,7 +56,7 @@ pub impl Routing for Tree as TreeRouting {
         if self.is_usable() { 2 * self.height } else { 0 }
     }
 
-    // Ports 0 and 1 lead to the parent, 2 and 3 to the one child, 4 and 5 to the other.
+    // Two ports for each neighbour: 0 and 1 up, 2 and 3 to child 2n + 1, 4 and 5 to child 2n + 2.
     fn link(&self, n: usize, p: usize) -> Option<usize> {
         let nodes = self.nodes();
         if n >= nodes || p >= 6 {

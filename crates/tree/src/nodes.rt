@@ -24,7 +24,7 @@ pub fn depth_of(n: usize) -> usize
     }
 }
 
-// The hops from `n` to `d`: one more than from the parent of the larger to the smaller.
+// The hops from `n` to `d`: the larger of the two climbs to its parent until they meet.
 pub fn hops_between(n: usize, d: usize) -> usize
     ensures is { λ r. ⌜ r ≡ tree-distance n d ⌝ }
     ensures small { λ r. ⌜ r ≤ max n d ⌝ }

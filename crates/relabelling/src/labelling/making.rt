@@ -58,8 +58,8 @@ fn listing(bytes: &[u8]) -> Labelling
 }
 
 impl Labelling {
-    // The labelling that lists exactly the bytes, or why there is none: are there 2 to 64, is each under their number,
-    // is none repeated? The questions are put in this order, each to all of the bytes.
+    // The labelling that lists exactly the bytes, or the first fault, each looked for in all the bytes before the next:
+    // there are not 2 to 64 of them; one is not less than their number; one stands twice.
     pub fn new(bytes: &[u8]) -> Result<Labelling, LabellingRefusal>
         ensures { λ r. ⌜ Labelled (now (bytes .entry)) r ⌝ }
     {

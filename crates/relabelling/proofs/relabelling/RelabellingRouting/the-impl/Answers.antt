@@ -3,9 +3,7 @@ use Rattle.relabelling.proofs.RelabelledLaws.{relabelled-lawful}
 use Rattle.relabelling.proofs.relabelling.RelabellingRouting.the-impl.Needs as need
 
 pub lawful-law : need.lawful-law
-lawful-law g x =
-    let l = x .labelling in
-    relabelled-lawful (l .count) (l .positions) (l .within) (l .once) (l .few .0) (g .X·Routing .meaning (x .routing)) (g .X·Routing·met .lawful (x .routing))
+lawful-law g x = relabelled-lawful (x .labelling) (g .X·Routing .meaning (x .routing)) (g .X·Routing·met .lawful (x .routing))
 
 pub bounds-law : need.bounds-law
 bounds-law g x = bounds-of _ (lawful-law g x)
