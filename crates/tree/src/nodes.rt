@@ -4,14 +4,14 @@ ghost use Prim.Native.Nat.{_≤_, max};
 ghost use Rattle.tree.specs.Trees.{parent, depth, tree-distance, in-subtree, ancestor};
 
 // The parent of node `n`, and 0 for the root.
-pub fn parent_of(n: usize) -> usize
+pub(crate) fn parent_of(n: usize) -> usize
     ensures { λ r. ⌜ r ≡ parent n ⌝ }
 {
     n.saturating_sub(1) / 2
 }
 
 // The depth of node `n`.
-pub fn depth_of(n: usize) -> usize
+pub(crate) fn depth_of(n: usize) -> usize
     ensures { λ r. ⌜ r ≡ depth n ⌝ }
 {
     match n {
@@ -25,7 +25,7 @@ pub fn depth_of(n: usize) -> usize
 }
 
 // The hops from `n` to `d`: the larger of the two climbs to its parent until they meet.
-pub fn hops_between(n: usize, d: usize) -> usize
+pub(crate) fn hops_between(n: usize, d: usize) -> usize
     ensures is { λ r. ⌜ r ≡ tree-distance n d ⌝ }
     ensures small { λ r. ⌜ r ≤ max n d ⌝ }
 {
@@ -37,14 +37,14 @@ pub fn hops_between(n: usize, d: usize) -> usize
 }
 
 // Whether `d` is `top` or stands below it.
-pub fn in_subtree(top: usize, d: usize) -> bool
+pub(crate) fn in_subtree(top: usize, d: usize) -> bool
     ensures { λ r. ⌜ r ≡ in-subtree top d ⌝ }
 {
     top == d || (top < d && in_subtree(top, parent_of(d)))
 }
 
 // Whether `d` stands below `n`.
-pub fn is_ancestor(n: usize, d: usize) -> bool
+pub(crate) fn is_ancestor(n: usize, d: usize) -> bool
     ensures { λ r. ⌜ r ≡ ancestor n d ⌝ }
 {
     n != d && in_subtree(n, d)
