@@ -1,22 +1,14 @@
 // Follows the escape channels of a network from one node to another, as `route ring 8 6 1`: a line a hop, with its node,
 // port, class, rank and next node, and then `arrived` and the number of hops.
-mod command;
-mod shape_name;
-#[cfg(test)]
-mod tests;
-mod trace_error;
-mod tracing;
-mod word_error;
-
-use command::parse;
 use network::RouteStepDisplay;
 use std::env;
 use std::error::AnyError;
 use std::io::BufWriter;
 use std::io::Write;
-use trace_error::TraceErrorError;
-use tracing::traced;
-use word_error::WordErrorError;
+use traceroute::TraceErrorError;
+use traceroute::WordErrorError;
+use traceroute::parse;
+use traceroute::traced;
 
 // Reads the command, traces its route and prints it.
 fn run(rt: &LibcRuntime) -> Result<(), AnyError> {

@@ -1,18 +1,20 @@
 // Commands from their words to their routes, and the sentences for those that are none.
-use crate::command::parse;
-use crate::shape_name::ShapeName;
-use crate::trace_error::TraceError;
-use crate::trace_error::TraceErrorDebug;
-use crate::trace_error::TraceErrorDisplay;
-use crate::trace_error::TraceErrorPartialEq;
-use crate::tracing::traced;
-use crate::word_error::WordError;
-use crate::word_error::WordErrorDebug;
-use crate::word_error::WordErrorDisplay;
-use crate::word_error::WordErrorPartialEq;
 use std::alloc::AllocError;
 use std::alloc::Global;
 use std::test::*;
+use traceroute::ShapeName;
+use traceroute::ShapeNameDebug;
+use traceroute::ShapeNamePartialEq;
+use traceroute::TraceError;
+use traceroute::TraceErrorDebug;
+use traceroute::TraceErrorDisplay;
+use traceroute::TraceErrorPartialEq;
+use traceroute::WordError;
+use traceroute::WordErrorDebug;
+use traceroute::WordErrorDisplay;
+use traceroute::WordErrorPartialEq;
+use traceroute::parse;
+use traceroute::traced;
 
 // The words of a line.
 fn words_of(heap: Global, line: &str) -> Result<Vec<String>, AllocError> {

@@ -3,9 +3,9 @@ use Prim.Native.Nat.{_<_}
 use native.Mathlib.Omega.{arith}
 use lib.ListN.{length}
 use Rattle.std.proofs.shelf.Tests.{eqb-true, eqb-false}
-use Rattle.route.specs.Commands.{texts}
-use Rattle.route.proofs.Words.{texts-length, text-at, first-named-by}
-use Rattle.route.proofs.command.first_named.Needs as need
+use Rattle.traceroute.specs.Commands.{texts}
+use Rattle.traceroute.proofs.Words.{texts-length, text-at, first-named-by}
+use Rattle.traceroute.proofs.command.first_named.Needs as need
 
 pub returns-then-is-empty : need.returns-then-is-empty
 returns-then-is-empty c = λ h name e. omega (arith, texts-length (c .args .words .now), eqb-true (length (c .args .words .now)) 0 (sym (c .is-empty .ensures) ∙ c .if-is-empty .taken))

@@ -1,6 +1,6 @@
 // Why words are no command.
 ghost use mathlib.Core.Path.{_≡_};
-ghost use Rattle.route.specs.declared.word_error.WordError.the-variants.{OutOfMemory};
+ghost use Rattle.traceroute.specs.declared.word_error.WordError.the-variants.{OutOfMemory};
 use std::alloc::Refused;
 use std::error::Error;
 use std::fmt;

@@ -1,6 +1,6 @@
 // The words that name a shape.
 ghost use mathlib.Core.Path.{_≡_};
-ghost use Rattle.route.specs.Names.{Named, size-count, shape-of};
+ghost use Rattle.traceroute.specs.Names.{Named, size-count, shape-of};
 use line::Line;
 use product::Product;
 use ring::Ring;

@@ -12,9 +12,9 @@ use Rattle.std.specs.declared.option.Option.the-variants.{None, Some}
 use Rattle.std.specs.declared.string.String.{String}
 use Rattle.std.proofs.shelf.Lists.{getD-map, length-map}
 use Rattle.std.proofs.shelf.Tests.{cases-lt}
-use Rattle.route.specs.declared.shape_name.ShapeName.{ShapeName}
-use Rattle.route.specs.Names.{Named}
-use Rattle.route.specs.Commands.{Decimal, Reads, texts, Written, NoneAt, FirstNamed}
+use Rattle.traceroute.specs.declared.shape_name.ShapeName.{ShapeName}
+use Rattle.traceroute.specs.Names.{Named}
+use Rattle.traceroute.specs.Commands.{Decimal, Reads, texts, Written, NoneAt, FirstNamed}
 
 pub texts-length : (words : List (String Global)) → length (texts words) ≡ length words
 texts-length words = length-map words string-bytes

@@ -8,8 +8,8 @@ use Rattle.std.specs.declared.option.Option.{Option}
 use Rattle.std.specs.declared.option.Option.the-variants.{None, Some}
 use Rattle.shape.specs.declared.shapes.Shape.{Shape}
 use Rattle.shape.specs.declared.shapes.Shape.the-variants as shapes
-use Rattle.route.specs.declared.shape_name.ShapeName.{ShapeName}
-use Rattle.route.specs.declared.shape_name.ShapeName.the-variants.{Line, Ring, Tree, Mesh, Torus, Cylinder}
+use Rattle.traceroute.specs.declared.shape_name.ShapeName.{ShapeName}
+use Rattle.traceroute.specs.declared.shape_name.ShapeName.the-variants.{Line, Ring, Tree, Mesh, Torus, Cylinder}
 
 abbrev pub word-of : ShapeName → List ℕ
 word-of Line = codes "line"

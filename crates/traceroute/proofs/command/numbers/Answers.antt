@@ -5,9 +5,9 @@ use native.Mathlib.Omega.{arith}
 use lib.ListN.{length, getD}
 use Rattle.std.specs.Of.Vec.{vec-items, vec-len}
 use Rattle.std.specs.declared.option.Option.the-variants.{None, Some}
-use Rattle.route.specs.Commands.{Reads, texts, NoneAt}
-use Rattle.route.proofs.Words.{texts-length, text-at, written-more, none-at}
-use Rattle.route.proofs.command.numbers.Needs as need
+use Rattle.traceroute.specs.Commands.{Reads, texts, NoneAt}
+use Rattle.traceroute.proofs.Words.{texts-length, text-at, written-more, none-at}
+use Rattle.traceroute.proofs.command.numbers.Needs as need
 
 pub returns-in-None : need.returns-in-None
 returns-in-None c =

@@ -15,11 +15,11 @@ use Rattle.std.specs.declared.result.Result.{Result}
 use Rattle.std.specs.declared.result.Result.the-variants.{Ok, Err}
 use Rattle.std.specs.declared.string.String.{String}
 use Rattle.std.specs.declared.vec.Vec.{Vec}
-use Rattle.route.specs.declared.command.Command.{Command}
-use Rattle.route.specs.declared.shape_name.ShapeName.{ShapeName}
-use Rattle.route.specs.declared.word_error.WordError.{WordError}
-use Rattle.route.specs.declared.word_error.WordError.the-variants.{NoShape, NoNumber, WrongCount, OutOfMemory}
-use Rattle.route.specs.Names.{Named, size-count, shape-of}
+use Rattle.traceroute.specs.declared.command.Command.{Command}
+use Rattle.traceroute.specs.declared.shape_name.ShapeName.{ShapeName}
+use Rattle.traceroute.specs.declared.word_error.WordError.{WordError}
+use Rattle.traceroute.specs.declared.word_error.WordError.the-variants.{NoShape, NoNumber, WrongCount, OutOfMemory}
+use Rattle.traceroute.specs.Names.{Named, size-count, shape-of}
 
 -- the word is a decimal numeral, with or without a plus, of a number under 2 ^ 64
 abbrev pub Decimal : List ℕ → Type 0

@@ -1,5 +1,5 @@
 // The route of a command.
-ghost use Rattle.route.specs.Traces.{Traced};
+ghost use Rattle.traceroute.specs.Traces.{Traced};
 use crate::command::Command;
 use crate::trace_error::TraceError;
 use network::RouteError;

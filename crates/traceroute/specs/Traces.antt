@@ -10,9 +10,9 @@ use Rattle.std.specs.declared.vec.Vec.{Vec}
 use Rattle.network.specs.declared.route_step.RouteStep.{RouteStep}
 use Rattle.network.specs.Routes.{Routed}
 use Rattle.shape.specs.Shapes.{shaped}
-use Rattle.route.specs.declared.command.Command.{Command}
-use Rattle.route.specs.declared.trace_error.TraceError.{TraceError}
-use Rattle.route.specs.declared.trace_error.TraceError.the-variants.{Unusable, NoNode, OutOfMemory}
+use Rattle.traceroute.specs.declared.command.Command.{Command}
+use Rattle.traceroute.specs.declared.trace_error.TraceError.{TraceError}
+use Rattle.traceroute.specs.declared.trace_error.TraceError.the-variants.{Unusable, NoNode, OutOfMemory}
 
 -- the first of the two nodes that is not under the number of nodes
 abbrev pub stray : Command → ℕ

@@ -1,8 +1,8 @@
 use mathlib.Core.Path.{_≡_}
 use Prim.Native.Nat.{_+_}
 use Rattle.std.specs.Of.Vec.{vec-items, vec-len}
-use Rattle.route.specs.Commands.{texts, Written}
-use Rattle.route.proofs.command.numbers.Given as given
+use Rattle.traceroute.specs.Commands.{texts, Written}
+use Rattle.traceroute.proofs.command.numbers.Given as given
 
 -- one number for each word so far
 abbrev pub Inv-loop-place : given.InvT-loop-place

@@ -2,7 +2,7 @@
 ghost use mathlib.Core.Path.{_≡_};
 ghost use Prim.Native.Nat.{_<_};
 ghost use lib.ListN.{length};
-ghost use Rattle.route.specs.Commands.{as-command, Reads, Numbered, FirstNamed, Parsed, texts};
+ghost use Rattle.traceroute.specs.Commands.{as-command, Reads, Numbered, FirstNamed, Parsed, texts};
 use crate::shape_name::ShapeName;
 use crate::shape_name::shape_named;
 use crate::word_error::WordError;

@@ -1,0 +1,3 @@
+// Tests of the commands of the program `route`.
+#[cfg(test)]
+mod commands;
