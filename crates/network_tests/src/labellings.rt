@@ -63,32 +63,30 @@ fn refusals() -> Result<(), Fail> {
 #[test]
 fn made() -> Result<(), Fail> {
     let bytes = [2, 0, 3, 1];
-    match Labelling::new(&bytes) {
-        Ok(labelling) => {
-            check_eq(labelling.len(), 4)?;
-            for (label, position) in bytes.iter().enumerate() {
-                check_eq(labelling.position(label), Some(*position as usize))?;
-            }
-            check_eq(labelling.position(4), None)?;
-            // labels 1, 3, 0 and 2 stand in a row
-            let line = Relabelling {
-                routing: Line { size: 4 },
-                labelling,
-            };
-            check_eq(line.link(1, 0), Some(3))?;
-            check_eq(line.link(3, 0), Some(0))?;
-            check_eq(line.link(2, 0), None)?;
-            check_eq(line.distance(1, 2), 3)
-        }
-        Err(_) => Err(Fail::new("the bytes are a labelling")),
+    let labelling = Labelling::new(&bytes)?;
+    check_eq(labelling.len(), 4)?;
+    for (label, position) in bytes.iter().enumerate() {
+        check_eq(labelling.position(label), Some(*position as usize))?;
     }
+    check_eq(labelling.position(4), None)
+}
+
+#[test]
+fn in_a_row() -> Result<(), Fail> {
+    let labelling = Labelling::new(&[2, 0, 3, 1])?;
+    let line = Relabelling {
+        routing: Line { size: 4 },
+        labelling,
+    };
+    for (label, next) in [(1, Some(3)), (3, Some(0)), (0, Some(2)), (2, None)] {
+        check_eq(line.link(label, 0), next)?;
+    }
+    check_eq(line.distance(1, 2), 3)
 }
 
 #[test]
 fn longest(rt: LibcRuntime) -> Result<(), Fail> {
     let bytes = (0..64u8).rev().collect::<Vec<u8>>(rt.alloc())?;
-    match Labelling::new(&bytes) {
-        Ok(labelling) => check_eq(labelling.position(0), Some(63)),
-        Err(_) => Err(Fail::new("64 bytes are a labelling")),
-    }
+    let labelling = Labelling::new(&bytes)?;
+    check_eq(labelling.position(0), Some(63))
 }

@@ -6,6 +6,7 @@ use network::Routing;
 use product::Product;
 use product::ProductRouting;
 use relabelling::Labelling;
+use relabelling::LabellingRefusalDebug;
 use relabelling::Relabelling;
 use relabelling::RelabellingRouting;
 use ring::Ring;
@@ -180,44 +181,34 @@ fn products() -> Result<(), Fail> {
 
 #[test]
 fn relabellings() -> Result<(), Fail> {
-    let bytes = [5, 3, 0, 6, 1, 4, 2];
-    match Labelling::new(&bytes) {
-        Ok(labelling) => {
-            check_laws(
-                &Relabelling {
-                    routing: Ring { size: 7 },
-                    labelling,
-                },
-            ).note("a ring with labels")?;
-            check_laws(
-                &Relabelling {
-                    routing: Tree { height: 2, fat: 1 },
-                    labelling,
-                },
-            ).note("a tree with labels")
-        }
-        Err(_) => Err(Fail::new("the bytes are a labelling")),
-    }
+    let labelling = Labelling::new(&[5, 3, 0, 6, 1, 4, 2])?;
+    let ring = Ring { size: 7 };
+    check_laws(
+        &Relabelling {
+            routing: ring,
+            labelling,
+        },
+    ).note("a ring with labels")?;
+    let tree = Tree { height: 2, fat: 1 };
+    check_laws(
+        &Relabelling {
+            routing: tree,
+            labelling,
+        },
+    ).note("a tree with labels")
 }
 
 #[test]
 fn topologies() -> Result<(), Fail> {
-    let shape = Shape::Cylinder(Product {
+    let routing = Shape::Cylinder(Product {
         first: Ring { size: 3 },
         second: Line { size: 2 },
     });
-    check_laws(&Topology::Plain(shape)).note("a cylinder")?;
-    match Labelling::new(&[4, 0, 5, 3, 1, 2]) {
-        Ok(labelling) => {
-            let relabelled = Topology::Relabelled(Relabelling {
-                routing: shape,
-                labelling,
-            });
-            check_laws(&relabelled).note("a cylinder with labels")?;
-            check_eq(relabelled.link(1, 0), Some(4)).note(
-                "position 1, which label 4 has, is next to position 0",
-            )
-        }
-        Err(_) => Err(Fail::new("the bytes are a labelling")),
-    }
+    check_laws(&Topology::Plain(routing)).note("a cylinder")?;
+    let labelling = Labelling::new(&[4, 0, 5, 3, 1, 2])?;
+    let relabelled = Topology::Relabelled(Relabelling { routing, labelling });
+    check_laws(&relabelled).note("a cylinder with labels")?;
+    check_eq(relabelled.link(1, 0), Some(4)).note(
+        "label 1 stands at position 0, and label 4 at position 1",
+    )
 }

@@ -74,7 +74,7 @@ pub impl Routing for Ring as RingRouting {
     }
 
     // The shorter way, up where both are equal. A packet whose way still crosses the dateline, between the last node and
-    // node 0, takes class 0, and any other class 1, so that the channels on no way close a circle.
+    // node 0, takes class 0, and any other class 1, so that the ranks rise along the way.
     fn escape(&self, n: usize, d: usize) -> Option<Hop> {
         let nodes = self.nodes();
         if n >= nodes || d >= nodes || n == d {
