@@ -1,4 +1,6 @@
 // Arbitration: which of the buffers that ask for a link is granted it.
+#![tactic(auto)]
+
 mod arbiter;
 mod entry;
 mod lowest;

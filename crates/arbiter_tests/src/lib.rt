@@ -1,3 +1,5 @@
 // Tables of questions for each kind of arbiter.
+#![tactic(auto)]
+
 #[cfg(test)]
 mod tests;

@@ -53,16 +53,16 @@ fn visit<R: Routing, A: Arbiter>(
     n: usize,
     p: usize,
 ) -> Option<Grant>
-    requires fits { Fits (R.Routing.meaning routing.now) sizes }
+    requires fits { Fits (R.meaning routing.now) sizes }
     requires sound { Sound queues.now sizes.depth }
-    requires stands { Stands (R.Routing.meaning routing.now) standing.now }
+    requires stands { Stands (R.meaning routing.now) standing.now }
     requires flags { length granted.now ≡ sizes.buffers }
     requires entries { sizes.buffers ≤ length entries.old }
     requires targets { sizes.buffers ≤ length targets.old }
     requires node { n < sizes.nodes }
     requires port { p ≤ sizes.ports }
-    ensures answer { result ≡ chosen (R.Routing.meaning routing.now) A.Arbiter.rule (visit_of n p) arbiter.old (requests_of (start_of (R.Routing.meaning routing.now) sizes cycle queues.now) granted.now (visit_of n p)) }
-    ensures after { arbiter.new ≡ next_arbiter (R.Routing.meaning routing.now) A.Arbiter.rule (visit_of n p) arbiter.old (requests_of (start_of (R.Routing.meaning routing.now) sizes cycle queues.now) granted.now (visit_of n p)) }
+    ensures answer { result ≡ chosen (R.meaning routing.now) A.Arbiter.rule (visit_of n p) arbiter.old (requests_of (start_of (R.meaning routing.now) sizes cycle queues.now) granted.now (visit_of n p)) }
+    ensures after { arbiter.new ≡ next_arbiter (R.meaning routing.now) A.Arbiter.rule (visit_of n p) arbiter.old (requests_of (start_of (R.meaning routing.now) sizes cycle queues.now) granted.now (visit_of n p)) }
     ensures old { OldUnder sizes.buffers result }
 {
     let len = requests(
@@ -109,11 +109,11 @@ pub fn decide<R: Routing, A: Arbiter>(
     scratch: &mut Scratch,
     trace: &mut [Grant],
 ) -> usize
-    requires fits { Fits (R.Routing.meaning routing.now) sizes }
+    requires fits { Fits (R.meaning routing.now) sizes }
     requires sound { Sound queues.now sizes.depth }
-    requires stands { Stands (R.Routing.meaning routing.now) standing.now }
+    requires stands { Stands (R.meaning routing.now) standing.now }
     requires room { sizes.nodes * (sizes.ports + 1) ≤ length trace.old }
-    ensures { Decided (start_of (R.Routing.meaning routing.now) sizes cycle queues.now) A.Arbiter.rule arbiter.old arbiter.new trace.old trace.new result }
+    ensures { Decided (start_of (R.meaning routing.now) sizes cycle queues.now) A.Arbiter.rule arbiter.old arbiter.new trace.old trace.new result }
 {
     decide_in(
         routing,
@@ -142,14 +142,14 @@ fn decide_in<R: Routing, A: Arbiter>(
     targets: &mut [usize],
     trace: &mut [Grant],
 ) -> usize
-    requires fits { Fits (R.Routing.meaning routing.now) sizes }
+    requires fits { Fits (R.meaning routing.now) sizes }
     requires sound { Sound queues.now sizes.depth }
-    requires stands { Stands (R.Routing.meaning routing.now) standing.now }
+    requires stands { Stands (R.meaning routing.now) standing.now }
     requires flags { sizes.buffers ≤ length granted.old }
     requires entries { sizes.buffers ≤ length entries.old }
     requires targets { sizes.buffers ≤ length targets.old }
     requires room { sizes.nodes * (sizes.ports + 1) ≤ length trace.old }
-    ensures { Decided (start_of (R.Routing.meaning routing.now) sizes cycle queues.now) A.Arbiter.rule arbiter.old arbiter.new trace.old trace.new result }
+    ensures { Decided (start_of (R.meaning routing.now) sizes cycle queues.now) A.Arbiter.rule arbiter.old arbiter.new trace.old trace.new result }
 {
     let granted = &mut granted[..sizes.buffers];
     visit_all(
@@ -170,14 +170,14 @@ fn visit_all<R: Routing, A: Arbiter>(
     targets: &mut [usize],
     trace: &mut [Grant],
 ) -> usize
-    requires fits { Fits (R.Routing.meaning routing.now) sizes }
+    requires fits { Fits (R.meaning routing.now) sizes }
     requires sound { Sound queues.now sizes.depth }
-    requires stands { Stands (R.Routing.meaning routing.now) standing.now }
+    requires stands { Stands (R.meaning routing.now) standing.now }
     requires flags { length granted.old ≡ sizes.buffers }
     requires entries { sizes.buffers ≤ length entries.old }
     requires targets { sizes.buffers ≤ length targets.old }
     requires room { sizes.nodes * (sizes.ports + 1) ≤ length trace.old }
-    ensures { Decided (start_of (R.Routing.meaning routing.now) sizes cycle queues.now) A.Arbiter.rule arbiter.old arbiter.new trace.old trace.new result }
+    ensures { Decided (start_of (R.meaning routing.now) sizes cycle queues.now) A.Arbiter.rule arbiter.old arbiter.new trace.old trace.new result }
 {
     granted.fill(false);
     let mut count = 0;

@@ -1,5 +1,7 @@
 // One cycle of the switch, in memory: the requests of the buffers, the decisions, and the moves. The functions are generic
 // over the routing and the arbiter, and work on lent parts of a fabric. What they require, the fabric's invariant gives.
+#![tactic(auto)]
+
 mod deciding;
 mod moving;
 mod requesting;

@@ -32,7 +32,7 @@ fn is_below(count: usize, depth: usize) -> bool
 
 // Whether the link of `n` by port `p` leads one nearer to `d`.
 fn is_nearer<R: Routing>(routing: &R, n: usize, p: usize, d: usize) -> bool
-    ensures { result ≡ is_nearer (R.Routing.meaning routing.now) n d ((R.Routing.meaning routing.now).link n p) }
+    ensures { result ≡ is_nearer (R.meaning routing.now) n d ((R.meaning routing.now).link n p) }
 {
     match routing.link(n, p) {
         Some(m) => routing.distance(m, d) + 1 == routing.distance(n, d),
@@ -49,10 +49,10 @@ fn by_escape<R: Routing>(
     p: usize,
     d: usize,
 ) -> Option<usize>
-    requires fits { Fits (R.Routing.meaning routing.now) sizes }
+    requires fits { Fits (R.meaning routing.now) sizes }
     requires node { n < sizes.nodes }
     requires port { p < sizes.ports }
-    ensures { (k : ℕ) → result ≡ by_escape (start_of (R.Routing.meaning routing.now) sizes k queues.now) n p ((R.Routing.meaning routing.now).escape n d) }
+    ensures { (k : ℕ) → result ≡ by_escape (start_of (R.meaning routing.now) sizes k queues.now) n p ((R.meaning routing.now).escape n d) }
 {
     let hop = routing.escape(n, d)?;
     if hop.port != p {
@@ -76,10 +76,10 @@ fn next_buffer<R: Routing>(
     p: usize,
     d: usize,
 ) -> Option<usize>
-    requires fits { Fits (R.Routing.meaning routing.now) sizes }
+    requires fits { Fits (R.meaning routing.now) sizes }
     requires node { n < sizes.nodes }
     requires port { p ≤ sizes.ports }
-    ensures { (k : ℕ) → result ≡ next_buffer (start_of (R.Routing.meaning routing.now) sizes k queues.now) n p d }
+    ensures { (k : ℕ) → result ≡ next_buffer (start_of (R.meaning routing.now) sizes k queues.now) n p d }
 {
     if p == sizes.ports {
         return if d == n { Some(sizes.buffers) } else { None };
@@ -100,10 +100,10 @@ fn next_for<R: Routing>(
     p: usize,
     packet: Packet,
 ) -> Option<usize>
-    requires fits { Fits (R.Routing.meaning routing.now) sizes }
+    requires fits { Fits (R.meaning routing.now) sizes }
     requires node { n < sizes.nodes }
     requires port { p ≤ sizes.ports }
-    ensures { (k : ℕ) → result ≡ next_buffer (start_of (R.Routing.meaning routing.now) sizes k queues.now) n p packet.destination }
+    ensures { (k : ℕ) → result ≡ next_buffer (start_of (R.meaning routing.now) sizes k queues.now) n p packet.destination }
 {
     next_buffer(routing, queues, sizes, n, p, packet.destination as usize)
 }
@@ -119,14 +119,14 @@ fn request<R: Routing>(
     p: usize,
     b: usize,
 ) -> Option<Grant>
-    requires fits { Fits (R.Routing.meaning routing.now) sizes }
+    requires fits { Fits (R.meaning routing.now) sizes }
     requires sound { Sound queues.now sizes.depth }
     requires flags { length granted.now ≡ sizes.buffers }
     requires node { n < sizes.nodes }
     requires port { p ≤ sizes.ports }
     requires buffer { b < sizes.buffers }
-    requires stands { location_of (R.Routing.meaning routing.now) b ≡ Some n }
-    ensures { result ≡ request_of (start_of (R.Routing.meaning routing.now) sizes cycle queues.now) granted.now (visit_of n p) b }
+    requires stands { location_of (R.meaning routing.now) b ≡ Some n }
+    ensures { result ≡ request_of (start_of (R.meaning routing.now) sizes cycle queues.now) granted.now (visit_of n p) b }
 {
     if granted[b] {
         return None;
@@ -155,16 +155,16 @@ pub fn requests<R: Routing>(
     n: usize,
     p: usize,
 ) -> usize
-    requires fits { Fits (R.Routing.meaning routing.now) sizes }
+    requires fits { Fits (R.meaning routing.now) sizes }
     requires sound { Sound queues.now sizes.depth }
-    requires stands { Stands (R.Routing.meaning routing.now) standing.now }
+    requires stands { Stands (R.meaning routing.now) standing.now }
     requires flags { length granted.now ≡ sizes.buffers }
     requires entries { sizes.buffers ≤ length entries.old }
     requires targets { sizes.buffers ≤ length targets.old }
     requires node { n < sizes.nodes }
     requires port { p ≤ sizes.ports }
-    ensures entries { take result entries.new ≡ map entry_of (requests_of (start_of (R.Routing.meaning routing.now) sizes cycle queues.now) granted.now (visit_of n p)) }
-    ensures targets { take result targets.new ≡ map new_of (requests_of (start_of (R.Routing.meaning routing.now) sizes cycle queues.now) granted.now (visit_of n p)) }
+    ensures entries { take result entries.new ≡ map entry_of (requests_of (start_of (R.meaning routing.now) sizes cycle queues.now) granted.now (visit_of n p)) }
+    ensures targets { take result targets.new ≡ map new_of (requests_of (start_of (R.meaning routing.now) sizes cycle queues.now) granted.now (visit_of n p)) }
     ensures few { result ≤ sizes.buffers }
 {
     let mut len = 0;

@@ -17,7 +17,7 @@ pub struct Sizes {
 impl Sizes {
     // The sizes of a routing, for buffers of a depth.
     pub fn of<R: Routing>(routing: &R, depth: usize) -> Self
-        ensures { Measured (R.Routing.meaning routing.now) depth result }
+        ensures { Measured (R.meaning routing.now) depth result }
     {
         let nodes = routing.nodes();
         let ports = routing.ports();

@@ -18,8 +18,8 @@ pub struct Standing {
 impl Standing {
     // The buffers that stand at each node of a routing.
     pub fn of<R: Routing>(routing: &R, sizes: Sizes) -> Self
-        requires fits { Fits (R.Routing.meaning routing.now) sizes }
-        ensures { Stands (R.Routing.meaning routing.now) result }
+        requires fits { Fits (R.meaning routing.now) sizes }
+        ensures { Stands (R.meaning routing.now) result }
     {
         let none = sizes.buffers as u16;
         let mut standing = Standing {
@@ -49,9 +49,9 @@ impl Standing {
 
 // Puts each buffer before those that stand at its node already, from the last buffer to the first.
 fn chain<R: Routing>(routing: &R, sizes: Sizes, standing: &mut Standing)
-    requires fits { Fits (R.Routing.meaning routing.now) sizes }
-    requires fresh { ChainedFrom (R.Routing.meaning routing.now) standing.old sizes.buffers }
-    ensures { Stands (R.Routing.meaning routing.now) standing.new }
+    requires fits { Fits (R.meaning routing.now) sizes }
+    requires fresh { ChainedFrom (R.meaning routing.now) standing.old sizes.buffers }
+    ensures { Stands (R.meaning routing.now) standing.new }
 {
     for b in (0..sizes.buffers).rev() {
         if let Some(n) = location(routing, sizes, b) {
@@ -63,9 +63,9 @@ fn chain<R: Routing>(routing: &R, sizes: Sizes, standing: &mut Standing)
 
 // The node where a buffer stands.
 pub fn location<R: Routing>(routing: &R, sizes: Sizes, b: usize) -> Option<usize>
-    requires fits { Fits (R.Routing.meaning routing.now) sizes }
+    requires fits { Fits (R.meaning routing.now) sizes }
     requires buffer { b < sizes.buffers }
-    ensures { result ≡ location_of (R.Routing.meaning routing.now) b }
+    ensures { result ≡ location_of (R.meaning routing.now) b }
 {
     let channels = sizes.buffers - sizes.nodes;
     if b < channels {

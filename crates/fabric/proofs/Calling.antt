@@ -2,7 +2,7 @@
 use Rattle.std.proofs.Common.{◌≡◌, ℕ, [], Some, None, Option, sym, refl, ap, ◌∙◌, arith}
 use Rattle.queue.specs.Contents.{Sound}
 use Rattle.network.specs.Network.{Network}
-use Rattle.table.proofs.TableLaws.{table_lawful}
+use Rattle.table.specs.TableLaws.{table_lawful}
 use Rattle.arbiter.specs.Rule.{Rule, Exists}
 use Rattle.switch.specs.Calls.{SwitchState, Call, Answer, Outcome, standard_limits, first_refusal, questions, performed, settled, perform}
 use Rattle.switch.specs.Calls.Answer.{refused, done, number}

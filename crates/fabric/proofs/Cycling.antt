@@ -3,7 +3,7 @@ use Rattle.std.proofs.Common.{◌≡◌, ℕ, ◌+◌, ◌*◌, ◌<◌, ◌≤�
 use Rattle.std.proofs.lemmas.Bool.{lt-ltb, le-ltb, le-leb, lt-leb, ltb-true, leb-true, cond-true, cond-false}
 use Rattle.network.specs.Network.{Network}
 use Rattle.network.proofs.Consequences.{bounds_of}
-use Rattle.table.proofs.TableLaws.{table_lawful}
+use Rattle.table.specs.TableLaws.{table_lawful}
 use Rattle.arbiter.specs.Rule.{Rule}
 use Rattle.switch.specs.declared.grant.Grant.{Grant}
 use Rattle.switch.specs.Calls.{SwitchState, cycled_by}

@@ -7,7 +7,7 @@ use Rattle.network.specs.Network.{Network}
 use Rattle.arbiter.specs.Rule.{Rule, Exists}
 use Rattle.table.specs.declared.table.Table.{Table}
 use Rattle.table.specs.Tables.{network_of}
-use Rattle.table.proofs.TableLaws.{table_lawful}
+use Rattle.table.specs.TableLaws.{table_lawful}
 use Rattle.switch.specs.Buffers.{work_left}
 use Rattle.switch.specs.Calls.{SwitchState, Run, inside, decisions, cycled_by, is_closed, drain_step, draining}
 use Rattle.switch.specs.declared.feed_state.FeedState.{FeedState}

@@ -7,7 +7,7 @@ use Rattle.queue.specs.Contents.{contents, Sound}
 use Rattle.queue.proofs.Buffers.{getD_all_contents}
 use Rattle.network.specs.Network.{Network}
 use Rattle.network.proofs.Consequences.{bounds_of}
-use Rattle.table.proofs.TableLaws.{table_lawful}
+use Rattle.table.specs.TableLaws.{table_lawful}
 use Rattle.switch.specs.declared.feed_state.FeedState.{FeedState}
 use Rattle.switch.specs.declared.feed_state.FeedState.TheVariants.{Open}
 use Rattle.switch.specs.Places.{channel_count, buffer_count, injection_buffer}

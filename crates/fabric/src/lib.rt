@@ -1,5 +1,7 @@
 // The fabric: a switch that runs, over any routing and any arbiter. Each call answers and does what the definition of the
 // switch says, and the law of its runs stands on `make`.
+#![tactic(auto)]
+
 mod body;
 mod fabric;
 mod feed;

@@ -10,7 +10,7 @@ use queue::Queues;
 
 // The distance to `d` from where a packet stands.
 fn distance_from<R: Routing>(routing: &R, at: Option<usize>, d: usize) -> usize
-    ensures value { result ≡ distance_from (R.Routing.meaning routing.now) at d }
+    ensures value { result ≡ distance_from (R.meaning routing.now) at d }
     ensures small { result ≤ 64 }
 {
     match at {
@@ -21,10 +21,10 @@ fn distance_from<R: Routing>(routing: &R, at: Option<usize>, d: usize) -> usize
 
 // The work of the packets of the buffer `b`.
 fn buffer_work<R: Routing>(routing: &R, queues: &Queues, sizes: Sizes, b: usize) -> usize
-    requires fits { Fits (R.Routing.meaning routing.now) sizes }
+    requires fits { Fits (R.meaning routing.now) sizes }
     requires sound { Sound queues.now sizes.depth }
     requires buffer { b < sizes.buffers }
-    ensures value { result ≡ sum_by (packet_work (R.Routing.meaning routing.now) b) (contents queues.now sizes.depth b) }
+    ensures value { result ≡ sum_by (packet_work (R.meaning routing.now) b) (contents queues.now sizes.depth b) }
     ensures small { result ≤ 260 }
 {
     let at = location(routing, sizes, b);
@@ -39,9 +39,9 @@ fn buffer_work<R: Routing>(routing: &R, queues: &Queues, sizes: Sizes, b: usize)
 
 // The work of all packets.
 pub fn work_of<R: Routing>(routing: &R, queues: &Queues, sizes: Sizes) -> usize
-    requires fits { Fits (R.Routing.meaning routing.now) sizes }
+    requires fits { Fits (R.meaning routing.now) sizes }
     requires sound { Sound queues.now sizes.depth }
-    ensures value { result ≡ work_left (R.Routing.meaning routing.now) (buffers_in sizes queues.now) }
+    ensures value { result ≡ work_left (R.meaning routing.now) (buffers_in sizes queues.now) }
     ensures small { result ≤ 532480 }
 {
     let mut sum = 0;

@@ -1,6 +1,10 @@
 // The line: nodes in a row, each linked to the next and to the one before.
+#![tactic(auto)]
+
 ghost use Rattle.std.specs.Prelude.{◌≡◌};
 ghost use Rattle.line.specs.Lines.{line, line_sized};
+ghost use Rattle.line.specs.LineLaws.{line_lawful};
+ghost use Rattle.network.proofs.Consequences.{bounds_of, follows_of};
 
 use network::{Hop, Routing};
 
@@ -25,6 +29,12 @@ impl Line {
 
 impl Routing for Line {
     ghost meaning = { λ x. line x.size };
+
+    ghost lawful = { λ x. line_lawful x.size };
+
+    ghost bounds = { λ x. bounds_of _ (line_lawful x.size) };
+
+    ghost follows = { λ x. follows_of _ (line_lawful x.size) };
 
     fn nodes(&self) -> usize {
         if self.is_usable() { self.size } else { 0 }

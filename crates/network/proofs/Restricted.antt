@@ -1,10 +1,10 @@
 -- What is left to show of a kind of routing: the laws of its rule where the arguments are in range. Assumes nothing.
-use Rattle.std.proofs.Common.{◌≡◌, ℕ, ◌+◌, ◌*◌, ◌<◌, ◌≤◌, Bool, true, false, cond, not, ◌&&◌, eqb, ltb, leb, ◌≢◌, is_some, Some, None, Option, sym, refl, ap, ◌∙◌, subst, arith}
+use Rattle.std.proofs.Common.{◌≡◌, ℕ, ◌+◌, ◌<◌, Bool, true, ◌≢◌, Some, None, Option, sym, refl, ap, ◌∙◌, subst, arith}
 use Rattle.std.proofs.lemmas.Bool.Decides.{nat_tests}
 use Rattle.std.proofs.lemmas.Bool.{cond_both, lt-ltb, ne_eqb}
 use Rattle.network.specs.declared.hop.Hop.{Hop}
 use Rattle.network.specs.Network.{Network, unusable, restrict, usable_when}
-use Rattle.network.specs.Laws.{Sizes, Distances, Steps, Nearer, Leads, Escapes, Ceilings, Rises, Links, Outside, Lawful}
+use Rattle.network.specs.Laws.{Sizes, Distances, Steps, Nearer, Leads, Escapes, Rises, Links, Outside, Lawful}
 
 -- the laws of a rule; a rank matters only where there is a link
 pub record Sound (rule : Network) : Type 0 where

@@ -1,5 +1,5 @@
 -- Walks, and following escape, in a lawful network. Assumes nothing.
-use Rattle.std.proofs.Common.{◌≡◌, ℕ, suc, ◌+◌, ◌<◌, ◌≤◌, List, [], ◌∷◌, length, Some, None, Option, sym, refl, ◌∙◌, subst, arith}
+use Rattle.std.proofs.Common.{◌≡◌, ℕ, ◌<◌, ◌≤◌, List, [], ◌∷◌, length, Some, None, sym, subst, arith}
 use Rattle.std.specs.Option.{option_map}
 use Rattle.network.specs.declared.hop.Hop.{Hop}
 use Rattle.network.specs.declared.route_step.RouteStep.{RouteStep}

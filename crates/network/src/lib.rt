@@ -1,4 +1,6 @@
 // Switched networks of nodes with one-way links, and how packets are routed through them.
+#![tactic(auto)]
+
 mod hop;
 mod route_step;
 mod routes;

@@ -8,7 +8,7 @@ use std::alloc::Global;
 
 // The step that escape takes from `node` towards `end`, with its rank.
 fn next_step<R: Routing>(routing: &R, node: usize, end: usize) -> Option<RouteStep>
-    ensures { result ≡ option_map (step_by (meaning routing.now) node) ((meaning routing.now).escape node end) }
+    ensures { result ≡ option_map (step_by (R.meaning routing.now) node) ((R.meaning routing.now).escape node end) }
 {
     match routing.escape(node, end) {
         Some(hop) => Some(RouteStep {
@@ -29,8 +29,8 @@ fn steps_between<R: Routing>(
     start: usize,
     end: usize,
 ) -> Result<Vec<RouteStep>, RouteError>
-    requires { (start < (meaning routing.now).nodes) × (end < (meaning routing.now).nodes) }
-    ensures { Routed (meaning routing.now) start end result }
+    requires { (start < (R.meaning routing.now).nodes) × (end < (R.meaning routing.now).nodes) }
+    ensures { Routed (R.meaning routing.now) start end result }
 {
     let mut steps = Vec::new(heap);
     let mut node = start;
@@ -50,7 +50,7 @@ pub fn route<R: Routing>(
     start: usize,
     end: usize,
 ) -> Result<Vec<RouteStep>, RouteError>
-    ensures { Routed (meaning routing.now) start end result }
+    ensures { Routed (R.meaning routing.now) start end result }
 {
     let nodes = routing.nodes();
     if start >= nodes {

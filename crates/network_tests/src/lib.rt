@@ -1,4 +1,6 @@
 // Tests of the routings: every law computed by running the code, worked examples, bad sizes and refusals.
+#![tactic(auto)]
+
 #[cfg(test)]
 mod examples;
 #[cfg(test)]

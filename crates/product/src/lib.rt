@@ -1,6 +1,10 @@
 // The product of two routings: a grid whose rows are copies of the first and whose columns are copies of the second.
+#![tactic(auto)]
+
 ghost use Rattle.std.specs.Prelude.{◌≡◌, ◌+◌, ◌*◌, ◌≤◌};
 ghost use Rattle.product.specs.Products.{product, product_sized};
+ghost use Rattle.product.specs.ProductLaws.{product_lawful};
+ghost use Rattle.network.proofs.Consequences.{bounds_of, follows_of};
 
 use network::{Hop, Routing};
 
@@ -15,7 +19,7 @@ pub struct Product<X, Y> {
 impl<X: Routing, Y: Routing> Product<X, Y> {
     // Whether both parts are usable and the whole is small enough.
     fn is_usable(&self) -> bool
-        ensures { result ≡ product_sized (X.Routing.meaning self.now.first) (Y.Routing.meaning self.now.second) }
+        ensures { result ≡ product_sized (X.meaning self.now.first) (Y.meaning self.now.second) }
     {
         let width = self.first.nodes();
         let height = self.second.nodes();
@@ -33,7 +37,13 @@ fn node_at(width: usize, a: usize, b: usize) -> usize
 }
 
 impl<X: Routing, Y: Routing> Routing for Product<X, Y> {
-    ghost meaning = { λ x. product (X.Routing.meaning x.first) (Y.Routing.meaning x.second) };
+    ghost meaning = { λ x. product (X.meaning x.first) (Y.meaning x.second) };
+
+    ghost lawful = { λ x. product_lawful (X.meaning x.first) (Y.meaning x.second) (X.lawful x.first) (Y.lawful x.second) };
+
+    ghost bounds = { λ x. bounds_of _ (product_lawful (X.meaning x.first) (Y.meaning x.second) (X.lawful x.first) (Y.lawful x.second)) };
+
+    ghost follows = { λ x. follows_of _ (product_lawful (X.meaning x.first) (Y.meaning x.second) (X.lawful x.first) (Y.lawful x.second)) };
 
     fn nodes(&self) -> usize {
         if self.is_usable() {

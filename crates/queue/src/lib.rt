@@ -1,4 +1,6 @@
 // The buffers of a switch: first-in first-out queues of packets, each with slots of its own.
+#![tactic(auto)]
+
 mod packet;
 mod queue;
 mod queues;

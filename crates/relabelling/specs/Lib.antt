@@ -1,3 +1,4 @@
 pub mod Refusals
 pub mod Labels
 pub mod Relabels
+pub mod RelabelledLaws

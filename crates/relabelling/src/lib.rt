@@ -1,4 +1,6 @@
 // Labellings, and routings whose nodes are named by their labels.
+#![tactic(auto)]
+
 mod labelling;
 mod refusal;
 mod relabelling;

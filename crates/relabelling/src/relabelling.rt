@@ -1,6 +1,8 @@
 // A routing whose nodes are named by their labels.
 ghost use Rattle.std.specs.Prelude.{◌≡◌};
 ghost use Rattle.relabelling.specs.Relabels.{relabelled, relabelled_sized};
+ghost use Rattle.relabelling.specs.RelabelledLaws.{relabelled_lawful};
+ghost use Rattle.network.proofs.Consequences.{bounds_of, follows_of};
 
 use crate::Labelling;
 use network::{Hop, Routing};
@@ -16,14 +18,20 @@ pub struct Relabelling<X> {
 impl<X: Routing> Relabelling<X> {
     // Whether there are as many labels as nodes. There are at least 2 labels, so the routing is usable then.
     fn is_usable(&self) -> bool
-        ensures { result ≡ relabelled_sized self.now.labelling.count (X.Routing.meaning self.now.routing) }
+        ensures { result ≡ relabelled_sized self.now.labelling.count (X.meaning self.now.routing) }
     {
         self.routing.nodes() == self.labelling.len()
     }
 }
 
 impl<X: Routing> Routing for Relabelling<X> {
-    ghost meaning = { λ x. relabelled x.labelling (X.Routing.meaning x.routing) };
+    ghost meaning = { λ x. relabelled x.labelling (X.meaning x.routing) };
+
+    ghost lawful = { λ x. relabelled_lawful x.labelling (X.meaning x.routing) (X.lawful x.routing) };
+
+    ghost bounds = { λ x. bounds_of _ (relabelled_lawful x.labelling (X.meaning x.routing) (X.lawful x.routing)) };
+
+    ghost follows = { λ x. follows_of _ (relabelled_lawful x.labelling (X.meaning x.routing) (X.lawful x.routing)) };
 
     fn nodes(&self) -> usize {
         if self.is_usable() {

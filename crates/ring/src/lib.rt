@@ -1,6 +1,10 @@
 // The ring: nodes in a circle, each linked to the next and to the one before.
+#![tactic(auto)]
+
 ghost use Rattle.std.specs.Prelude.{◌≡◌, ◌<◌, ◌≤◌};
 ghost use Rattle.ring.specs.Rings.{ring, ring_sized, ring_up};
+ghost use Rattle.ring.specs.RingLaws.{ring_lawful};
+ghost use Rattle.network.proofs.Consequences.{bounds_of, follows_of};
 
 use network::{Hop, Routing};
 
@@ -33,6 +37,12 @@ fn hops_up(size: usize, n: usize, d: usize) -> usize
 
 impl Routing for Ring {
     ghost meaning = { λ x. ring x.size };
+
+    ghost lawful = { λ x. ring_lawful x.size };
+
+    ghost bounds = { λ x. bounds_of _ (ring_lawful x.size) };
+
+    ghost follows = { λ x. follows_of _ (ring_lawful x.size) };
 
     fn nodes(&self) -> usize {
         if self.is_usable() { self.size } else { 0 }

@@ -1,5 +1,7 @@
 // Follows the escape channels of a network from one node to another, as `route ring 8 6 1`: a line a hop, with its node,
 // port, class, rank and next node, and then `arrived` and the number of hops.
+#![tactic(auto)]
+
 use std::env;
 use std::io::{BufWriter, Write};
 use traceroute::{parse, traced};

@@ -1,3 +1,4 @@
 pub mod Shapes
 pub mod Topologies
 pub mod Examples
+pub mod ShapeLaws

@@ -1,4 +1,6 @@
 // The networks that a caller chooses at run time: a shape, with labels or without.
+#![tactic(auto)]
+
 mod examples;
 mod shapes;
 mod topology;

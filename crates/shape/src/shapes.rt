@@ -1,5 +1,7 @@
 // The shapes of networks that a caller can choose from at run time.
 ghost use Rattle.shape.specs.Shapes.{shaped};
+ghost use Rattle.shape.specs.ShapeLaws.{shape_lawful};
+ghost use Rattle.network.proofs.Consequences.{bounds_of, follows_of};
 
 use line::Line;
 use network::{Hop, Routing};
@@ -20,6 +22,12 @@ pub enum Shape {
 
 impl Routing for Shape {
     ghost meaning = { shaped };
+
+    ghost lawful = { λ x. shape_lawful x };
+
+    ghost bounds = { λ x. bounds_of _ (shape_lawful x) };
+
+    ghost follows = { λ x. follows_of _ (shape_lawful x) };
 
     fn nodes(&self) -> usize {
         match self {

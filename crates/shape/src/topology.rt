@@ -1,5 +1,7 @@
 // A shape, with labels or without.
 ghost use Rattle.shape.specs.Topologies.{topology_network};
+ghost use Rattle.shape.specs.ShapeLaws.{topology_lawful};
+ghost use Rattle.network.proofs.Consequences.{bounds_of, follows_of};
 
 use crate::Shape;
 use network::{Hop, Routing};
@@ -13,6 +15,12 @@ pub enum Topology {
 
 impl Routing for Topology {
     ghost meaning = { topology_network };
+
+    ghost lawful = { λ x. topology_lawful x };
+
+    ghost bounds = { λ x. bounds_of _ (topology_lawful x) };
+
+    ghost follows = { λ x. follows_of _ (topology_lawful x) };
 
     fn nodes(&self) -> usize {
         match self {

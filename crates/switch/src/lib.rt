@@ -1,5 +1,7 @@
 // The switch as a definition, and the law of its runs. The definition and the law stand in specs/; the code here is the
 // records that they share with the running fabric, and the function that carries the law.
+#![tactic(auto)]
+
 mod feed_state;
 mod grant;
 mod law;

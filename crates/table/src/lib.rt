@@ -1,4 +1,6 @@
 // All answers of a routing, read once into arrays, and asked in its place.
+#![tactic(auto)]
+
 mod answers;
 mod reading;
 mod table;

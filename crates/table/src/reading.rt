@@ -9,28 +9,28 @@ use network::{Hop, Routing};
 
 // The link that stands at place `k`.
 fn link_for<R: Routing>(routing: &R, k: usize) -> Option<usize>
-    ensures { result ≡ placed_link (R.Routing.meaning routing.now) k }
+    ensures { result ≡ placed_link (R.meaning routing.now) k }
 {
     routing.link(k / PORTS, k % PORTS)
 }
 
 // The distance that stands at place `k`.
 fn distance_for<R: Routing>(routing: &R, k: usize) -> usize
-    ensures { result ≡ placed_distance (R.Routing.meaning routing.now) k }
+    ensures { result ≡ placed_distance (R.meaning routing.now) k }
 {
     routing.distance(k / NODES, k % NODES)
 }
 
 // The escape whose channel stands at place `k`.
 fn escape_for<R: Routing>(routing: &R, k: usize) -> Option<Hop>
-    ensures { result ≡ placed_escape (R.Routing.meaning routing.now) k }
+    ensures { result ≡ placed_escape (R.meaning routing.now) k }
 {
     routing.escape(k / NODES, k % NODES)
 }
 
 // The rank that stands at place `k`.
 fn rank_for<R: Routing>(routing: &R, k: usize) -> usize
-    ensures { result ≡ placed_rank (R.Routing.meaning routing.now) k }
+    ensures { result ≡ placed_rank (R.meaning routing.now) k }
 {
     routing.rank(k / CLASSES / PORTS, k / CLASSES % PORTS, k % CLASSES)
 }
@@ -62,7 +62,7 @@ fn channel_bytes(hop: Option<Hop>) -> Option<Channel>
 
 // The links of all nodes.
 fn links_of<R: Routing>(routing: &R) -> [Option<u8>; LINKS]
-    ensures { Filled (64 * 6) result None (placed_link (R.Routing.meaning routing.now)) }
+    ensures { Filled (64 * 6) result None (placed_link (R.meaning routing.now)) }
 {
     let mut links = [None; LINKS];
     for k in 0..LINKS {
@@ -73,7 +73,7 @@ fn links_of<R: Routing>(routing: &R) -> [Option<u8>; LINKS]
 
 // The distances between all nodes.
 fn distances_of<R: Routing>(routing: &R) -> [u8; PAIRS]
-    ensures { Filled (64 * 64) result 0 (placed_distance (R.Routing.meaning routing.now)) }
+    ensures { Filled (64 * 64) result 0 (placed_distance (R.meaning routing.now)) }
 {
     let mut distances = [0; PAIRS];
     for k in 0..PAIRS {
@@ -84,7 +84,7 @@ fn distances_of<R: Routing>(routing: &R) -> [u8; PAIRS]
 
 // The channels of the escapes between all nodes.
 fn escapes_of<R: Routing>(routing: &R) -> [Option<Channel>; PAIRS]
-    ensures { Filled (64 * 64) result None (placed_channel (R.Routing.meaning routing.now)) }
+    ensures { Filled (64 * 64) result None (placed_channel (R.meaning routing.now)) }
 {
     let mut escapes = [None; PAIRS];
     for k in 0..PAIRS {
@@ -95,7 +95,7 @@ fn escapes_of<R: Routing>(routing: &R) -> [Option<Channel>; PAIRS]
 
 // The ranks of all escape channels.
 fn ranks_of<R: Routing>(routing: &R) -> [u8; CHANNELS]
-    ensures { Filled (64 * 6 * 2) result 0 (placed_rank (R.Routing.meaning routing.now)) }
+    ensures { Filled (64 * 6 * 2) result 0 (placed_rank (R.meaning routing.now)) }
 {
     let mut ranks = [0; CHANNELS];
     for k in 0..CHANNELS {
@@ -106,7 +106,7 @@ fn ranks_of<R: Routing>(routing: &R) -> [u8; CHANNELS]
 
 // All the answers of a routing.
 pub fn answers_of<R: Routing>(routing: &R) -> Answers
-    ensures { Stores (R.Routing.meaning routing.now) result }
+    ensures { Stores (R.meaning routing.now) result }
 {
     Answers {
         nodes: routing.nodes(),

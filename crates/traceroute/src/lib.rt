@@ -1,4 +1,6 @@
 // The commands of the program `route`: read from words, and traced.
+#![tactic(auto)]
+
 mod command;
 mod shape_name;
 mod trace_error;

@@ -1,4 +1,6 @@
 // The tree: binary and complete, with a second link on each edge from a node above the fat depth.
+#![tactic(auto)]
+
 ghost use Rattle.std.specs.Prelude.{◌≡◌};
 ghost use Rattle.tree.specs.Trees.{tree, tree_sized};
 ghost use Rattle.tree.specs.TreeLaws.{tree_lawful};

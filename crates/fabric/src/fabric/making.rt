@@ -18,7 +18,7 @@ pub fn make<R: Routing, A: Arbiter>(
     arbiter: A,
     depth: usize,
 ) -> Result<Fabric<R, A>, NotMade<R, A>>
-    ensures { Making (R.Routing.meaning routing) A.Arbiter.rule depth routing arbiter result }
+    ensures { Making (R.meaning routing) A.Arbiter.rule depth routing arbiter result }
 {
     if let Some(refusal) = make_refusal(&routing, depth) {
         return Err(not_made(routing, arbiter, depth, refusal));
@@ -28,7 +28,7 @@ pub fn make<R: Routing, A: Arbiter>(
 
 // Has the routing nodes, is the depth 1 to 4, and have the buffers at most 2,048 slots together?
 fn make_refusal<R: Routing>(routing: &R, depth: usize) -> Option<Refusal>
-    ensures { MakeAsked (R.Routing.meaning routing.now) depth result }
+    ensures { MakeAsked (R.meaning routing.now) depth result }
 {
     if routing.nodes() == 0 {
         return Some(Refusal::NoNodes);
@@ -49,8 +49,8 @@ fn not_made<R: Routing, A: Arbiter>(
     depth: usize,
     refusal: Refusal,
 ) -> NotMade<R, A>
-    requires asked { first_refusal (make_questions (R.Routing.meaning routing) depth) ≡ number_if (Some refusal) }
-    ensures { Refused (R.Routing.meaning routing) depth routing arbiter result }
+    requires asked { first_refusal (make_questions (R.meaning routing) depth) ≡ number_if (Some refusal) }
+    ensures { Refused (R.meaning routing) depth routing arbiter result }
 {
     NotMade {
         routing,
@@ -61,8 +61,8 @@ fn not_made<R: Routing, A: Arbiter>(
 
 // The fabric that no question refuses.
 fn made<R: Routing, A: Arbiter>(routing: R, arbiter: A, depth: usize) -> Fabric<R, A>
-    requires asked { MakeAsked (R.Routing.meaning routing) depth None }
-    ensures { Made (R.Routing.meaning routing) A.Arbiter.rule depth routing arbiter result }
+    requires asked { MakeAsked (R.meaning routing) depth None }
+    ensures { Made (R.meaning routing) A.Arbiter.rule depth routing arbiter result }
 {
     let table = Table::read(&routing);
     let sizes = Sizes::of(&routing, depth);

@@ -1,5 +1,5 @@
 use Rattle.std.proofs.Common.{rules}
-use Rattle.product.proofs.ProductLaws.{times_small}
+use Rattle.product.specs.ProductLaws.{times_small}
 use Rattle.product.proofs.node_at.Goals as goal
 
 pub overflow-mul-result : goal.overflow-mul-result

@@ -9,7 +9,7 @@ use network::Routing;
 impl Table {
     // The table that answers as the routing does, whatever is asked.
     pub fn read<R: Routing>(routing: &R) -> Table
-        ensures { network_of result ≡ R.Routing.meaning routing.now }
+        ensures { network_of result ≡ R.meaning routing.now }
     {
         Table {
             answers: answers_of(routing),

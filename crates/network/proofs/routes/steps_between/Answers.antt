@@ -1,4 +1,4 @@
-use Rattle.std.proofs.Common.{◌≡◌, List, [], ◌∷◌, ◌++◌, Some, None, vec_items, sym, subst, append_assoc, append-nil, rules}
+use Rattle.std.proofs.Common.{◌≡◌, [], ◌∷◌, ◌++◌, Some, None, vec_items, sym, subst, append_assoc, append-nil, rules}
 use Rattle.std.specs.Option.{option_map}
 use Rattle.network.specs.Routes.{step_by, Following}
 use Rattle.network.proofs.Walking.{following_arrives, following_more, following_none}

@@ -1,6 +1,6 @@
 use Rattle.std.proofs.Common.{rules}
 use Rattle.std.proofs.lemmas.Bool.Decides.{nat_tests}
-use Rattle.relabelling.proofs.RelabelledLaws.{label_next}
+use Rattle.relabelling.specs.RelabelledLaws.{label_next}
 use Rattle.relabelling.proofs.labelling.Labelling.label_at.Goals as goal
 
 pub loop-label-preserved : goal.loop-label-preserved

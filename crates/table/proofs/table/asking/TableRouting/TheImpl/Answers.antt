@@ -1,6 +1,6 @@
 -- The laws of a table, as a routing owes them.
 use Rattle.network.proofs.Consequences.{bounds_of, follows_of}
-use Rattle.table.proofs.TableLaws.{table_lawful}
+use Rattle.table.specs.TableLaws.{table_lawful}
 use Rattle.table.proofs.table.asking.TableRouting.TheImpl.Goals as goal
 
 pub lawful-law : goal.lawful-law

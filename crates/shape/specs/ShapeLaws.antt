@@ -1,10 +1,10 @@
 -- Each shape, and each topology, is lawful. Assumes nothing.
 use Rattle.network.specs.Laws.{Lawful}
-use Rattle.line.proofs.LineLaws.{line_lawful}
-use Rattle.ring.proofs.RingLaws.{ring_lawful}
+use Rattle.line.specs.LineLaws.{line_lawful}
+use Rattle.ring.specs.RingLaws.{ring_lawful}
 use Rattle.tree.specs.TreeLaws.{tree_lawful}
-use Rattle.product.proofs.ProductLaws.{product_lawful}
-use Rattle.relabelling.proofs.RelabelledLaws.{relabelled_lawful}
+use Rattle.product.specs.ProductLaws.{product_lawful}
+use Rattle.relabelling.specs.RelabelledLaws.{relabelled_lawful}
 use Rattle.shape.specs.declared.shapes.Shape.{Shape}
 use Rattle.shape.specs.declared.shapes.Shape.TheVariants.{Line, Ring, Tree, Mesh, Torus, Cylinder}
 use Rattle.shape.specs.declared.topology.Topology.{Topology}
