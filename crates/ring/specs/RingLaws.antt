@@ -1,5 +1,5 @@
 -- The ring keeps the laws. Assumes nothing.
-use Rattle.std.proofs.Common.{◌≡◌, ℕ, ◌+◌, ◌-◌, ◌*◌, ◌%◌, ◌<◌, ◌≤◌, min, true, cond, eqb, ltb, leb, ◌⊎◌, Some, refl, ap, ◌∙◌, inl, inr, mod-eq_of_lt, one-mul, zero-mul, arith, lit<, lit≤}
+use Rattle.std.proofs.Common.{◌≡◌, ℕ, ◌+◌, ◌-◌, ◌*◌, ◌%◌, ◌<◌, ◌≤◌, min, true, cond, eqb, ltb, leb, Some, refl, ap, ◌∙◌, inl, inr, mod-eq_of_lt, one-mul, zero-mul, arith, lit<, lit≤}
 use native.Mathlib.Nat.{add-mod_right, mod_self}
 use Rattle.std.proofs.lemmas.Bool.Decides.{nat_tests}
 use Rattle.std.proofs.lemmas.Bool.{cond_both, leb-true, and_parts, cases_lt}

@@ -4,15 +4,15 @@ use mir.Facts.{Fits-below}
 use Rattle.cycle.specs.Measures.{start_of, visit_of}
 use Rattle.cycle.proofs.Decisions.{from_port, deciding_start, deciding_none, deciding_some, deciding_end, at_port, past_ports, next_visit}
 use Rattle.cycle.proofs.deciding.visit_all.Goals as goal
-use Rattle.cycle.proofs.deciding.visit_all.Goals.{in-Some, in-default}
+use Rattle.cycle.proofs.deciding.visit_all.Goals.{in-Some, in_default}
 
 pub loop-n-init : goal.loop-n-init
 loop-n-init g c =
     deciding_start (g.R.Routing.meaning c.args.routing.now) (g.met.R.Routing.bounds c.args.routing.now) c.args.sizes c.requires.fits g.A.Arbiter.rule c.args.cycle c.args.queues.now c.args.arbiter.now
     c.args.trace.now (length c.args.granted.now) c.fill.new.self c.requires.flags (c.fill.ensures.after (λ y e. e)) c.requires.room
 
-pub offset-bounds-trace-count : goal.offset-bounds-trace-count
-offset-bounds-trace-count g c =
+pub offset_bounds-trace-count : goal.offset_bounds-trace-count
+offset_bounds-trace-count g c =
     let d = at_port c.args.sizes c.loop-n.n c.loop-p.p c.loop-n-test.true c.loop-n.invariant (c.loop-p.invariant _ _) c.loop-p-test.true in
     Fits-below {n = 14336} tt (omega (arith, d.small))
 
@@ -21,8 +21,8 @@ bounds-trace-count g c =
     let d = at_port c.args.sizes c.loop-n.n c.loop-p.p c.loop-n-test.true c.loop-n.invariant (c.loop-p.invariant _ _) c.loop-p-test.true in
     omega (arith, d.few, d.long)
 
-pub overflow-add-count : goal.overflow-add-count
-overflow-add-count g c =
+pub overflow_add-count : goal.overflow_add-count
+overflow_add-count g c =
     let d = at_port c.args.sizes c.loop-n.n c.loop-p.p c.loop-n-test.true c.loop-n.invariant (c.loop-p.invariant _ _) c.loop-p-test.true in
     Fits-below {n = 448} tt (omega (arith, d.small))
 
@@ -36,10 +36,10 @@ loop-p-preserved g c = λ all old entered.
           simp (v.trace-is, v.count_is, v.granted-is)
           (deciding_some start g.A.Arbiter.rule all old c.loop-p.trace c.loop-p.count c.loop-p.granted c.loop-p.arbiter c.visit.new.arbiter (visit_of c.loop-n.n c.loop-p.p) vs
           d c.visit.ensures.after v.in-Some.grant v.in-Some.ensures.answer)
-      | in-default v ↦
+      | in_default v ↦
           simp (v.trace-is, v.count_is, v.granted-is)
           (deciding_none start g.A.Arbiter.rule all old c.loop-p.trace c.loop-p.count c.loop-p.granted c.loop-p.arbiter c.visit.new.arbiter (visit_of c.loop-n.n c.loop-p.p) vs
-          d c.visit.ensures.after v.in-default.ensures.answer)
+          d c.visit.ensures.after v.in_default.ensures.answer)
     ]
 
 pub loop-n-preserved : goal.loop-n-preserved

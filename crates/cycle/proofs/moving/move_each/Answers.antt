@@ -12,8 +12,8 @@ use Rattle.cycle.proofs.Moves.{moves_more, movable_more, moves_none, no_grant}
 use Rattle.cycle.proofs.moving.move_each.Goals as goal
 use Rattle.cycle.proofs.moving.move_each.Goals.{then-grant-sizes, else-grant-sizes}
 
-pub move-packet-requires : goal.move-packet-requires
-move-packet-requires c =
+pub move_packet-requires : goal.move_packet-requires
+move_packet-requires c =
     let sizes = c.args.sizes in
     let m = movable_more sizes (buffers_in sizes c.loop-grant.queues) c.args.grants.now c.loop-grant.grant-index c.loop-grant-test.true c.loop-grant.invariant.1 in
     record { shallow = c.requires.shallow; slots = c.requires.slots; sound = c.loop-grant.invariant.2; movable = m.0 }
@@ -26,7 +26,7 @@ loop-grant-preserved c =
     let h = c.loop-grant-test.true in
     let bs = buffers_in sizes c.loop-grant.queues in
     let m = movable_more sizes bs gs i h c.loop-grant.invariant.1 in
-    let e = c.move-packet.ensures.buffers_are in
+    let e = c.move_packet.ensures.buffers_are in
     let one = ap (λ (x : Buffers). moves sizes.buffers x (drop (i + 1) gs)) e ∙ sym (moves_more sizes.buffers bs gs i h) ∙ c.loop-grant.invariant.0 in
     let two = subst (λ (x : Buffers). AllMovable sizes x (drop (i + 1) gs)) (sym e) m.1 in
     let k = c.loop-grant.invariant.3 in
@@ -35,14 +35,14 @@ loop-grant-preserved c =
       | then-grant-sizes v ↦ (
         one,
         two,
-        c.move-packet.ensures.sound,
+        c.move_packet.ensures.sound,
         v.delivered_is ∙ ap (λ (x : ℕ). x + 1) k ∙ sym (count_by_more_yes (λ (g : Grant). eqb g.new sizes.buffers) gs i no_grant h (eq-eqb _ _ v.if-grant-sizes.true)),
         omega (arith, v.delivered_is),
       )
       | else-grant-sizes v ↦ (
         one,
         two,
-        c.move-packet.ensures.sound,
+        c.move_packet.ensures.sound,
         v.delivered_is ∙ k ∙ sym (count_by_more_no (λ (g : Grant). eqb g.new sizes.buffers) gs i no_grant h (ne_eqb _ _ v.if-grant-sizes.false)),
         omega (arith, v.delivered_is),
       )

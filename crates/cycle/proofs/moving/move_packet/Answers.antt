@@ -30,6 +30,6 @@ pub returns-else-grant-sizes : goal.returns-else-grant-sizes
 returns-else-grant-sizes c =
     moved_out c.args.sizes c.args.queues.now c.pop.new.self c.args.grant c.requires.movable c.in-Some.packet c.in-Some.ensures c.if-grant-sizes.false
 
-pub returns-in-default : goal.returns-in-default
-returns-in-default c =
-    moved_none c.args.sizes c.args.queues.now c.pop.new.self c.args.grant c.requires.movable c.in-default.ensures
+pub returns-in_default : goal.returns-in_default
+returns-in_default c =
+    moved_none c.args.sizes c.args.queues.now c.pop.new.self c.args.grant c.requires.movable c.in_default.ensures

@@ -4,4 +4,4 @@ use Rattle.cycle.proofs.Lookups.{room_is}
 use Rattle.cycle.proofs.requesting.has_room.Goals as goal
 
 pub returns : goal.returns
-returns c = c.is-below.ensures ∙ room_is c.args.sizes c.args.queues.now c.args.b c.requires.buffer c.len.result (c.len.ensures c.args.sizes.depth)
+returns c = c.is_below.ensures ∙ room_is c.args.sizes c.args.queues.now c.args.b c.requires.buffer c.len.result (c.len.ensures c.args.sizes.depth)

@@ -17,25 +17,25 @@ front-requires g c = record {
   sound = c.requires.sound;
 }
 
-pub returns-in-err-packet : goal.returns-in-err-packet
-returns-in-err-packet g c =
+pub returns-in_err-packet : goal.returns-in_err-packet
+returns-in_err-packet g c =
     let sizes = c.args.sizes in
     let start = start_of (g.R.Routing.meaning c.args.routing.now) sizes c.args.cycle c.args.queues.now in
     c.from-residual.ensures
     ∙ sym (request_empty start c.args.granted.now (visit_of c.args.n c.args.p) c.args.b c.requires.stands c.if-granted-b.false
-    (front_is sizes c.args.queues.now c.args.b c.requires.buffer None c.in-err-packet.ensures))
+    (front_is sizes c.args.queues.now c.args.b c.requires.buffer None c.in_err-packet.ensures))
 
-pub returns-in-err-new : goal.returns-in-err-new
-returns-in-err-new g c =
+pub returns-in_err-new : goal.returns-in_err-new
+returns-in_err-new g c =
     let sizes = c.args.sizes in
     let start = start_of (g.R.Routing.meaning c.args.routing.now) sizes c.args.cycle c.args.queues.now in
-    c.from-residual-in-err-new.ensures
-    ∙ sym (request_first start c.args.granted.now (visit_of c.args.n c.args.p) c.args.b c.requires.stands c.if-granted-b.false c.in-ok-packet.packet None
-    (front_is sizes c.args.queues.now c.args.b c.requires.buffer (Some c.in-ok-packet.packet) c.in-ok-packet.ensures) (c.in-err-new.ensures c.args.cycle))
+    c.from-residual-in_err-new.ensures
+    ∙ sym (request_first start c.args.granted.now (visit_of c.args.n c.args.p) c.args.b c.requires.stands c.if-granted-b.false c.in_ok-packet.packet None
+    (front_is sizes c.args.queues.now c.args.b c.requires.buffer (Some c.in_ok-packet.packet) c.in_ok-packet.ensures) (c.in_err-new.ensures c.args.cycle))
 
 pub returns : goal.returns
 returns g c =
     let sizes = c.args.sizes in
     let start = start_of (g.R.Routing.meaning c.args.routing.now) sizes c.args.cycle c.args.queues.now in
-    sym (request_first start c.args.granted.now (visit_of c.args.n c.args.p) c.args.b c.requires.stands c.if-granted-b.false c.in-ok-packet.packet (Some c.in-ok-new.new)
-    (front_is sizes c.args.queues.now c.args.b c.requires.buffer (Some c.in-ok-packet.packet) c.in-ok-packet.ensures) (c.in-ok-new.ensures c.args.cycle))
+    sym (request_first start c.args.granted.now (visit_of c.args.n c.args.p) c.args.b c.requires.stands c.if-granted-b.false c.in_ok-packet.packet (Some c.in_ok-new.new)
+    (front_is sizes c.args.queues.now c.args.b c.requires.buffer (Some c.in_ok-packet.packet) c.in_ok-packet.ensures) (c.in_ok-new.ensures c.args.cycle))

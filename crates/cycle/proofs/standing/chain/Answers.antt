@@ -7,8 +7,8 @@ use Rattle.cycle.proofs.Locations.{at_node, at_small_node}
 use Rattle.cycle.proofs.Chaining.{chained_nowhere, chained_at}
 use Rattle.cycle.proofs.standing.chain.Goals as goal
 
-pub offset-bounds-standing-n : goal.offset-bounds-standing-n
-offset-bounds-standing-n g c =
+pub offset_bounds-standing-n : goal.offset_bounds-standing-n
+offset_bounds-standing-n g c =
     let routing = c.args.routing.now in
     let small = at_small_node (g.R.Routing.meaning routing) c.args.sizes c.requires.fits (c.loop-b.b - 1) (g.met.R.Routing.lawful routing) c.in-Some.n c.in-Some.ensures (omega arith) in
     Fits-below {n = 128} tt (omega (arith, small))
@@ -18,17 +18,17 @@ bounds-standing-n g c =
     let routing = c.args.routing.now in
     at_small_node (g.R.Routing.meaning routing) c.args.sizes c.requires.fits (c.loop-b.b - 1) (g.met.R.Routing.lawful routing) c.in-Some.n c.in-Some.ensures (omega arith)
 
-pub offset-bounds-standing-b : goal.offset-bounds-standing-b
-offset-bounds-standing-b g c = Fits-below {n = 4096} tt (omega (arith, buffers_few (g.R.Routing.meaning c.args.routing.now) c.args.sizes c.requires.fits))
+pub offset_bounds-standing-b : goal.offset_bounds-standing-b
+offset_bounds-standing-b g c = Fits-below {n = 4096} tt (omega (arith, buffers_few (g.R.Routing.meaning c.args.routing.now) c.args.sizes c.requires.fits))
 
 pub bounds-standing-b : goal.bounds-standing-b
 bounds-standing-b g c = omega (arith, buffers_few (g.R.Routing.meaning c.args.routing.now) c.args.sizes c.requires.fits)
 
-pub overflow-cast-standing : goal.overflow-cast-standing
-overflow-cast-standing g c = Fits-below {n = 2048} tt (omega (arith, buffers_few (g.R.Routing.meaning c.args.routing.now) c.args.sizes c.requires.fits))
+pub overflow_cast-standing : goal.overflow_cast-standing
+overflow_cast-standing g c = Fits-below {n = 2048} tt (omega (arith, buffers_few (g.R.Routing.meaning c.args.routing.now) c.args.sizes c.requires.fits))
 
-pub offset-bounds-standing-n-in-Some : goal.offset-bounds-standing-n-in-Some
-offset-bounds-standing-n-in-Some g c =
+pub offset_bounds-standing-n-in-Some : goal.offset_bounds-standing-n-in-Some
+offset_bounds-standing-n-in-Some g c =
     let routing = c.args.routing.now in
     let small = at_small_node (g.R.Routing.meaning routing) c.args.sizes c.requires.fits (c.loop-b.b - 1) (g.met.R.Routing.lawful routing) c.in-Some.n c.in-Some.ensures (omega arith) in
     Fits-below {n = 128} tt (omega (arith, small))
@@ -58,7 +58,7 @@ loop-b-preserved g c =
     let net = g.R.Routing.meaning c.args.routing.now in
     let e : c.loop-b.b ≡ suc (c.loop-b.b - 1) = omega arith in
     let old = subst (λ (x : ℕ). ChainedFrom net c.loop-b.standing x) e c.loop-b.invariant in
-    chained_nowhere net c.loop-b.standing (c.loop-b.b - 1) old c.in-default.ensures
+    chained_nowhere net c.loop-b.standing (c.loop-b.b - 1) old c.in_default.ensures
 
 pub returns : goal.returns
 returns g c =

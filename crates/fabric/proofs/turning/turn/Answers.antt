@@ -21,8 +21,8 @@ decide-count-requires g c =
       room = c.requires.room;
     }
 
-pub move-all-delivered-requires : goal.move-all-delivered-requires
-move-all-delivered-requires g c =
+pub move_all-delivered-requires : goal.move_all-delivered-requires
+move_all-delivered-requires g c =
     let net = g.R.Routing.meaning c.args.routing.now in
     let law = g.met.R.Routing.lawful c.args.routing.now in
     let fits = fits_out net c.args.arbiter.now c.args.body.now c.args.standing.now c.requires.ready in
@@ -35,30 +35,30 @@ move-all-delivered-requires g c =
           c.decide-count.new.arbiter c.args.trace.now c.decide-count.new.trace c.decide-count.result c.decide-count.ensures;
     }
 
-pub overflow-add-body-2 : goal.overflow-add-body-2
-overflow-add-body-2 g c =
+pub overflow_add-body-2 : goal.overflow_add-body-2
+overflow_add-body-2 g c =
     let net = g.R.Routing.meaning c.args.routing.now in
     let law = g.met.R.Routing.lawful c.args.routing.now in
     let small = delivered_small net law g.A.Arbiter.rule g.met.A.Arbiter.exists c.args.arbiter.now c.args.body.now c.args.standing.now c.requires.ready
     c.decide-count.new.arbiter c.args.trace.now c.decide-count.new.trace c.decide-count.result c.decide-count.ensures
-    c.move-all-delivered.new.queues c.move-all-delivered.result c.move-all-delivered.ensures in
-    Fits-below {m = c.args.body.now.delivered + c.move-all-delivered.result} {n = 60001} tt (omega (arith, c.requires.taken))
+    c.move_all-delivered.new.queues c.move_all-delivered.result c.move_all-delivered.ensures in
+    Fits-below {m = c.args.body.now.delivered + c.move_all-delivered.result} {n = 60001} tt (omega (arith, c.requires.taken))
 
-pub overflow-sub-body : goal.overflow-sub-body
-overflow-sub-body g c =
+pub overflow_sub-body : goal.overflow_sub-body
+overflow_sub-body g c =
     let net = g.R.Routing.meaning c.args.routing.now in
     let law = g.met.R.Routing.lawful c.args.routing.now in
     delivered_part net law g.A.Arbiter.rule g.met.A.Arbiter.exists c.args.arbiter.now c.args.body.now c.args.standing.now c.requires.ready
     c.decide-count.new.arbiter c.args.trace.now c.decide-count.new.trace c.decide-count.result c.decide-count.ensures
-    c.move-all-delivered.new.queues c.move-all-delivered.result c.move-all-delivered.ensures
+    c.move_all-delivered.new.queues c.move_all-delivered.result c.move_all-delivered.ensures
 
-pub overflow-add-body-3 : goal.overflow-add-body-3
-overflow-add-body-3 g c =
+pub overflow_add-body-3 : goal.overflow_add-body-3
+overflow_add-body-3 g c =
     let net = g.R.Routing.meaning c.args.routing.now in
     let law = g.met.R.Routing.lawful c.args.routing.now in
     let small = hops_small net law g.A.Arbiter.rule g.met.A.Arbiter.exists c.args.arbiter.now c.args.body.now c.args.standing.now c.requires.ready
     c.decide-count.new.arbiter c.args.trace.now c.decide-count.new.trace c.decide-count.result c.decide-count.ensures
-    c.move-all-delivered.new.queues c.move-all-delivered.result c.move-all-delivered.ensures in
+    c.move_all-delivered.new.queues c.move_all-delivered.result c.move_all-delivered.ensures in
     Fits-below {n = 3900001} tt (omega (arith, c.requires.taken))
 
 pub returns : goal.returns
@@ -67,4 +67,4 @@ returns g c =
     let law = g.met.R.Routing.lawful c.args.routing.now in
     turned_by net law g.A.Arbiter.rule g.met.A.Arbiter.exists c.args.arbiter.now c.args.body.now c.args.standing.now c.requires.ready
     c.decide-count.new.arbiter c.args.trace.now c.decide-count.new.trace c.decide-count.result c.decide-count.ensures
-    c.move-all-delivered.new.queues c.move-all-delivered.result c.move-all-delivered.ensures
+    c.move_all-delivered.new.queues c.move_all-delivered.result c.move_all-delivered.ensures

@@ -11,7 +11,7 @@ use Rattle.cycle.proofs.Fitting.{buffers_few}
 use Rattle.cycle.proofs.Moves.{slots_in_range}
 use Rattle.fabric.proofs.Works.{sum_some, sum_none}
 use Rattle.fabric.proofs.working.buffer_work.Goals as goal
-use Rattle.fabric.proofs.working.buffer_work.Goals.{in-Some, in-default}
+use Rattle.fabric.proofs.working.buffer_work.Goals.{in-Some, in_default}
 
 pub len-k-end-requires : goal.len-k-end-requires
 len-k-end-requires g c = let h = buffers_few (g.R.Routing.meaning c.args.routing.now) c.args.sizes c.requires.fits in omega arith
@@ -23,8 +23,8 @@ at-requires g c =
       sound = c.requires.sound;
     }
 
-pub overflow-add-sum-in-Some : goal.overflow-add-sum-in-Some
-overflow-add-sum-in-Some g c =
+pub overflow_add-sum-in-Some : goal.overflow_add-sum-in-Some
+overflow_add-sum-in-Some g c =
     let w = contents_within c.args.queues.now c.args.sizes.depth c.args.b c.requires.sound in
     let h : c.loop-k.sum + (c.distance_from.result + 1) ≤ 400 =
     omega (arith, c.loop-k.invariant.0, c.distance_from.ensures.small, c.len-k-end.ensures c.args.sizes.depth, c.requires.fits.shallow) in
@@ -43,8 +43,8 @@ loop-k-preserved g c =
             omega (arith, c.loop-k.invariant.0, w.distance_from.ensures.small, w.sum-is),
             w.sum-is ∙ ap₂ (λ (x y : ℕ). x + y) c.loop-k.invariant.1 one ∙ sym more,
           )
-      | in-default w ↦
-          let more = sum_none (packet_work net c.args.b) xs c.loop-k.k (sym c.at.ensures ∙ w.in-default.is) in
+      | in_default w ↦
+          let more = sum_none (packet_work net c.args.b) xs c.loop-k.k (sym c.at.ensures ∙ w.in_default.is) in
           (omega (arith, c.loop-k.invariant.0, w.sum-is), w.sum-is ∙ c.loop-k.invariant.1 ∙ sym more)
     ]
 

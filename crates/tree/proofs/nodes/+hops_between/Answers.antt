@@ -9,5 +9,5 @@ returns-then-n-d t c = record { is = sym (distance_same c.args.n c.args.d c.if-n
 pub returns-else-n-d : goal.returns-else-n-d
 returns-else-n-d t c =
     let e = distance_step c.args.n c.args.d c.if-n-d.false in
-    let r : c.hops-between.result ≡ tree_distance (parent (max c.args.n c.args.d)) (min c.args.n c.args.d) = cc in
+    let r : c.hops_between.result ≡ tree_distance (parent (max c.args.n c.args.d)) (min c.args.n c.args.d) = cc in
     record { is = omega arith; small = omega arith }

@@ -1,4 +1,4 @@
 use Rattle.tree.proofs.nodes.+in_subtree.Given as goal
 
-abbrev pub decreases-in-subtree : goal.decreases-in-subtree
-decreases-in-subtree l = l.d
+abbrev pub decreases-in_subtree : goal.decreases-in_subtree
+decreases-in_subtree l = l.d

@@ -4,8 +4,8 @@ use Rattle.cycle.proofs.Fitting.{buffers_few}
 use Rattle.cycle.proofs.Chaining.{chained_none}
 use Rattle.cycle.proofs.standing.Standing.of.Goals as goal
 
-pub overflow-cast-none : goal.overflow-cast-none
-overflow-cast-none g c = Fits-below {n = 2048} tt (buffers_few (g.R.Routing.meaning c.args.routing.now) c.args.sizes c.requires.fits)
+pub overflow_cast-none : goal.overflow_cast-none
+overflow_cast-none g c = Fits-below {n = 2048} tt (buffers_few (g.R.Routing.meaning c.args.routing.now) c.args.sizes c.requires.fits)
 
 pub chain-requires : goal.chain-requires
 chain-requires g c =

@@ -5,11 +5,11 @@ use Rattle.fabric.proofs.Calling.{answered_refused}
 use Rattle.fabric.proofs.Cycling.{ports_few, visits_few, ask_trace, ask_cycles, may_cycle}
 use Rattle.fabric.proofs.fabric.Fabric.cycle_refusal.Goals as goal
 
-pub overflow-add-self : goal.overflow-add-self
-overflow-add-self g c = Fits-below {n = 7} tt (let p = ports_few c.args.self.now in omega arith)
+pub overflow_add-self : goal.overflow_add-self
+overflow_add-self g c = Fits-below {n = 7} tt (let p = ports_few c.args.self.now in omega arith)
 
-pub overflow-mul-self : goal.overflow-mul-self
-overflow-mul-self g c = Fits-below {n = 448} tt (visits_few c.args.self.now)
+pub overflow_mul-self : goal.overflow_mul-self
+overflow_mul-self g c = Fits-below {n = 448} tt (visits_few c.args.self.now)
 
 pub returns-then-room-self : goal.returns-then-room-self
 returns-then-room-self g c =

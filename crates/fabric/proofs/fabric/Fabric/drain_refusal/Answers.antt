@@ -4,8 +4,8 @@ use Rattle.fabric.proofs.Calling.{answered_refused}
 use Rattle.fabric.proofs.Draining.{ask_closed, ask_budget, may_drain}
 use Rattle.fabric.proofs.fabric.Fabric.drain_refusal.Goals as goal
 
-pub returns-in-default : goal.returns-in-default
-returns-in-default g c = answered_refused c.args.self.now g.A.Arbiter.rule drain 12 (ask_closed c.args.self.now c.in-default.not-Closed)
+pub returns-in_default : goal.returns-in_default
+returns-in_default g c = answered_refused c.args.self.now g.A.Arbiter.rule drain 12 (ask_closed c.args.self.now c.in_default.not-Closed)
 
 pub returns-then-self-work : goal.returns-then-self-work
 returns-then-self-work g c =

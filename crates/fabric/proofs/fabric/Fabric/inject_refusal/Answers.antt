@@ -8,11 +8,11 @@ use Rattle.fabric.proofs.Feeding.{not_open}
 use Rattle.fabric.proofs.Injecting.{nodes_within, buffer_under, ask_open, ask_source, ask_destination, ask_limit, ask_room, may_inject}
 use Rattle.fabric.proofs.fabric.Fabric.inject_refusal.Goals as goal
 
-pub returns-in-default : goal.returns-in-default
-returns-in-default g c =
+pub returns-in_default : goal.returns-in_default
+returns-in_default g c =
     let f = c.args.self.now in
     answered_refused f g.A.Arbiter.rule (inject c.args.source c.args.destination) 5
-    (ask_open f c.args.source c.args.destination (not_open f.body.feed c.in-default.not-Open))
+    (ask_open f c.args.source c.args.destination (not_open f.body.feed c.in_default.not-Open))
 
 pub returns-then-source-sizes : goal.returns-then-source-sizes
 returns-then-source-sizes g c =
@@ -32,8 +32,8 @@ returns-then-self-ge60000 g c =
     answered_refused f g.A.Arbiter.rule (inject c.args.source c.args.destination) 8
     (ask_limit f c.args.source c.args.destination c.in-Open.is c.if-source-sizes.false c.if-destination-sizes.false c.if-self-ge60000.true)
 
-pub overflow-sub-sizes : goal.overflow-sub-sizes
-overflow-sub-sizes g c = nodes_within c.args.self.now
+pub overflow_sub-sizes : goal.overflow_sub-sizes
+overflow_sub-sizes g c = nodes_within c.args.self.now
 
 pub len-requires : goal.len-requires
 len-requires g c = let f = c.args.self.now in let b = buffers_few (network_in f) f.body.sizes (fits f) in let u = buffer_under f c.args.source c.if-source-sizes.false in omega arith

@@ -5,8 +5,8 @@ use Rattle.fabric.proofs.Calling.{sound, performed_state, answered_done, kept}
 use Rattle.fabric.proofs.Feeding.{refed}
 use Rattle.fabric.proofs.fabric.Fabric.mark_open.Goals as goal
 
-pub invariant-of-self : goal.invariant-of-self
-invariant-of-self g c =
+pub invariant_of-self : goal.invariant_of-self
+invariant_of-self g c =
     let f = c.args.self.now in
     (tt, (kept f g.A.Arbiter.rule open_feed g.met.A.Arbiter.exists f.arbiter (refed Open f.body) refl (sound f) (performed_state f g.A.Arbiter.rule open_feed c.requires.may _ refl), (f.few, tt)))
 

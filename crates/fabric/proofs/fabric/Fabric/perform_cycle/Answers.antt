@@ -13,8 +13,8 @@ turn-requires g c =
     let room = length c.args.trace.now in
     record { ready = f.ready; room = cycle_room f room c.requires.may; few = cycle_limit f room c.requires.may; taken = f.few }
 
-pub invariant-of-self : goal.invariant-of-self
-invariant-of-self g c =
+pub invariant_of-self : goal.invariant_of-self
+invariant_of-self g c =
     let f = c.args.self.now in
     let rule = g.A.Arbiter.rule in
     let room = length c.args.trace.now in

@@ -22,8 +22,8 @@ turn-requires g c =
       taken = m.few;
     }
 
-pub invariant-of-self : goal.invariant-of-self
-invariant-of-self g c =
+pub invariant_of-self : goal.invariant_of-self
+invariant_of-self g c =
     let f = c.args.self.now in
     let m = c.loop-trace.self in
     let t = c.turn.ensures in

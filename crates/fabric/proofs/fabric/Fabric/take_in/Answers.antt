@@ -9,39 +9,39 @@ use Rattle.fabric.proofs.Calling.{fits, sound, performed_state, answered_number,
 use Rattle.fabric.proofs.Injecting.{nodes_are, nodes_few, nodes_within, buffer_under, slots_under, injectable, injected_state}
 use Rattle.fabric.proofs.fabric.Fabric.take_in.Goals as goal
 
-pub overflow-sub-b : goal.overflow-sub-b
-overflow-sub-b g c = nodes_within c.args.self.now
+pub overflow_sub-b : goal.overflow_sub-b
+overflow_sub-b g c = nodes_within c.args.self.now
 
-pub overflow-add-b : goal.overflow-add-b
-overflow-add-b g c =
+pub overflow_add-b : goal.overflow_add-b
+overflow_add-b g c =
     let f = c.args.self.now in
     let q = injectable f c.args.source c.args.destination c.requires.may in
     Fits-below {n = 2048} tt (let b = buffers_few (network_in f) f.body.sizes (fits f) in let u = buffer_under f c.args.source q.source_in in omega arith)
 
-pub overflow-cast-source : goal.overflow-cast-source
-overflow-cast-source g c =
+pub overflow_cast-source : goal.overflow_cast-source
+overflow_cast-source g c =
     let f = c.args.self.now in
     let q = injectable f c.args.source c.args.destination c.requires.may in
     Fits-below {n = 64} tt (omega (arith, q.source_in, nodes_are f, nodes_few f))
 
-pub overflow-cast-destination : goal.overflow-cast-destination
-overflow-cast-destination g c =
+pub overflow_cast-destination : goal.overflow_cast-destination
+overflow_cast-destination g c =
     let f = c.args.self.now in
     let q = injectable f c.args.source c.args.destination c.requires.may in
     Fits-below {n = 64} tt (omega (arith, q.destination_in, nodes_are f, nodes_few f))
 
-pub take-in-requires : goal.take-in-requires
-take-in-requires g c =
+pub take_in-requires : goal.take_in-requires
+take_in-requires g c =
     let f = c.args.self.now in
     let q = injectable f c.args.source c.args.destination c.requires.may in
     record { shallow = (fits f).shallow; in_range = slots_under f c.args.source q.source_in; sound = sound f; room = q.room; few = q.under_limit }
 
-pub invariant-of-self : goal.invariant-of-self
-invariant-of-self g c =
+pub invariant_of-self : goal.invariant_of-self
+invariant_of-self g c =
     let f = c.args.self.now in
     let q = injectable f c.args.source c.args.destination c.requires.may in
-    let t = c.take-in.ensures.after in
-    let new = c.take-in.new.self in (
+    let t = c.take_in.ensures.after in
+    let new = c.take_in.new.self in (
       kept f g.A.Arbiter.rule (inject c.args.source c.args.destination) g.met.A.Arbiter.exists f.arbiter new t.sizes_is t.sound
           (performed_state f g.A.Arbiter.rule (inject c.args.source c.args.destination) c.requires.may _ (injected_state f c.args.source c.args.destination q.source_in new t)),
       (omega (arith, t.taken_is, q.under_limit), tt),
@@ -51,6 +51,6 @@ pub returns : goal.returns
 returns g c =
     let f = c.args.self.now in
     let q = injectable f c.args.source c.args.destination c.requires.may in
-    let t = c.take-in.ensures.after in
-    answered_number f g.A.Arbiter.rule (inject c.args.source c.args.destination) c.requires.may _ _ (ap number c.take-in.ensures.number)
-    (injected_state f c.args.source c.args.destination q.source_in c.take-in.new.self t) refl refl (ap (λ (x : Sizes). x.depth) t.sizes_is)
+    let t = c.take_in.ensures.after in
+    answered_number f g.A.Arbiter.rule (inject c.args.source c.args.destination) c.requires.may _ _ (ap number c.take_in.ensures.number)
+    (injected_state f c.args.source c.args.destination q.source_in c.take_in.new.self t) refl refl (ap (λ (x : Sizes). x.depth) t.sizes_is)

@@ -2,5 +2,5 @@
 use Rattle.fabric.proofs.Calling.{fits, sound}
 use Rattle.fabric.proofs.fabric.Fabric.work.Goals as goal
 
-pub work-of-requires : goal.work-of-requires
-work-of-requires g c = record { fits = fits c.args.self.now; sound = sound c.args.self.now }
+pub work_of-requires : goal.work_of-requires
+work_of-requires g c = record { fits = fits c.args.self.now; sound = sound c.args.self.now }

@@ -4,8 +4,8 @@ use Rattle.switch.proofs.LawHolds.{switch_law}
 use Rattle.fabric.proofs.Starting.{made_fits, made_state, made_depth, made_ready}
 use Rattle.fabric.proofs.fabric.making.made.Goals as goal
 
-pub invariant-of-result : goal.invariant-of-result
-invariant-of-result g c =
+pub invariant_of-result : goal.invariant_of-result
+invariant_of-result g c =
     let net = g.R.Routing.meaning c.args.routing in (
       made_ready net c.args.depth c.of-sizes.result c.of-sizes.ensures c.requires.asked c.args.arbiter c.new.result c.new.ensures
           (network_of c.read-table.result) c.read-table.ensures c.of-standing.result c.of-standing.ensures,

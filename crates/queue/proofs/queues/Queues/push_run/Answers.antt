@@ -3,8 +3,8 @@ use Rattle.std.proofs.Common.{arith, rules}
 use Rattle.queue.proofs.Frames.{buffer_below, put_back_lent, pushed}
 use Rattle.queue.proofs.queues.Queues.push_run.Goals as goal
 
-pub offset-bounds-self-b : goal.offset-bounds-self-b
-offset-bounds-self-b c = let below = buffer_below c.args.b c.args.depth 2048 (omega (arith, (c.requires.sound 0).0)) (omega arith) in search rules
+pub offset_bounds-self-b : goal.offset_bounds-self-b
+offset_bounds-self-b c = let below = buffer_below c.args.b c.args.depth 2048 (omega (arith, (c.requires.sound 0).0)) (omega arith) in search rules
 
 pub bounds-self-b : goal.bounds-self-b
 bounds-self-b c = buffer_below c.args.b c.args.depth 2048 (omega (arith, (c.requires.sound 0).0)) (omega arith)

@@ -2,8 +2,8 @@
 use Rattle.table.proofs.Same.{stored_same, stored_lawful}
 use Rattle.table.proofs.table.Table.read.Goals as goal
 
-pub invariant-of-result : goal.invariant-of-result
-invariant-of-result g c = (∣ stored_lawful _ (g.met.R.Routing.lawful c.args.routing.now) c.answers-of.result c.answers-of.ensures ∣₁, tt)
+pub invariant_of-result : goal.invariant_of-result
+invariant_of-result g c = (∣ stored_lawful _ (g.met.R.Routing.lawful c.args.routing.now) c.answers_of.result c.answers_of.ensures ∣₁, tt)
 
 pub returns : goal.returns
-returns g c = stored_same _ (g.met.R.Routing.lawful c.args.routing.now) c.answers-of.result c.answers-of.ensures
+returns g c = stored_same _ (g.met.R.Routing.lawful c.args.routing.now) c.answers_of.result c.answers_of.ensures
