@@ -23,7 +23,7 @@ pub enum Shape {
 impl Routing for Shape {
     ghost meaning = { shaped };
 
-    ghost lawful = { λ x. shape_lawful x };
+    ghost lawful = { shape_lawful };
 
     ghost bounds = { λ x. bounds_of _ (shape_lawful x) };
 

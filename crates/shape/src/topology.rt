@@ -16,7 +16,7 @@ pub enum Topology {
 impl Routing for Topology {
     ghost meaning = { topology_network };
 
-    ghost lawful = { λ x. topology_lawful x };
+    ghost lawful = { topology_lawful };
 
     ghost bounds = { λ x. bounds_of _ (topology_lawful x) };
 

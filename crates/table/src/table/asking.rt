@@ -2,6 +2,8 @@
 ghost use Rattle.std.specs.Prelude.{◌≡◌};
 ghost use Rattle.table.specs.Tables.{network_of};
 ghost use Rattle.table.specs.Stored.{channel_at};
+ghost use Rattle.table.specs.TableLaws.{table_lawful};
+ghost use Rattle.network.proofs.Consequences.{bounds_of, follows_of};
 
 use crate::answers::{CLASSES, Channel, NODES, PORTS};
 use crate::table::Table;
@@ -22,6 +24,12 @@ impl Table {
 
 impl Routing for Table {
     ghost meaning = { network_of };
+
+    ghost lawful = { table_lawful };
+
+    ghost bounds = { λ x. bounds_of _ (table_lawful x) };
+
+    ghost follows = { λ x. follows_of _ (table_lawful x) };
 
     fn nodes(&self) -> usize {
         self.answers.nodes
