@@ -4,7 +4,7 @@ use Rattle.std.proofs.Common.{◌≡◌, ℕ, zero, suc, ◌+◌, ◌*◌, ◌<�
 use lib.Arith.{digits_lt}
 use lib.ListN.{length-map, length-replicate, get_or-replicate}
 use Rattle.std.specs.List.{AllByRecursion as All}
-use Rattle.std.proofs.ByRecursion.{All-get_or, All-weaker, All_map, All-append}
+use Rattle.std.proofs.ByRecursion.{All-get_or, All-weaker, All-map, All-append}
 use Rattle.std.proofs.lemmas.List.{get_or_past}
 use Rattle.std.proofs.lemmas.Bool.{eqb-true, and_parts, not-true, cases_eq, cases_lt}
 use Rattle.queue.specs.declared.packet.Packet.{Packet}
@@ -109,7 +109,7 @@ module _ (start : Snapshot) (granted : List Bool) (v : Visit) where
       go None e r = r
       go (Some g) e r =
           let f = from_request b g e in (
-            All_map (λ (x : Entry). g.old < x.buffer) entry_of _
+            All-map (λ (x : Entry). g.old < x.buffer) entry_of _
                 (All-weaker (Listed (suc b) k) (λ x. g.old < x.old) (λ x h. omega (arith, h.2, f.2)) _ (requests_listed k (suc b))),
             r,
           )
@@ -293,7 +293,7 @@ module _ {Arb : Type 0} (start : Snapshot) (law : Lawful start.network) (rule : 
         ordered =
             record {
               rising = requests_rising start granted v (buffer_count start.network) 0;
-              under = All_map (λ (x : Entry). x.buffer < 2048) entry_of _
+              under = All-map (λ (x : Entry). x.buffer < 2048) entry_of _
                   (All-weaker (Listed start granted v 0 (buffer_count start.network)) (λ g. g.old < 2048) (λ g h. omega (arith, h.3)) _
                   (requests_listed start granted v (buffer_count start.network) 0));
             };
