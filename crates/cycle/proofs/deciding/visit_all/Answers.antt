@@ -33,11 +33,11 @@ loop-p-preserved g c = λ all old entered.
     let vs = from_port c.args.sizes c.loop-n.n (c.loop-p.p + 1) in
     elim c.match-visit.branch [
       | in-Some v ↦
-          simp (v.trace-is, v.count_is, v.granted-is)
+          simp (v.trace-is, v.count-is, v.granted-is)
           (deciding_some start g.A.Arbiter.rule all old c.loop-p.trace c.loop-p.count c.loop-p.granted c.loop-p.arbiter c.visit.new.arbiter (visit_of c.loop-n.n c.loop-p.p) vs
           d c.visit.ensures.after v.in-Some.grant v.in-Some.ensures.answer)
       | in_default v ↦
-          simp (v.trace-is, v.count_is, v.granted-is)
+          simp (v.trace-is, v.count-is, v.granted-is)
           (deciding_none start g.A.Arbiter.rule all old c.loop-p.trace c.loop-p.count c.loop-p.granted c.loop-p.arbiter c.visit.new.arbiter (visit_of c.loop-n.n c.loop-p.p) vs
           d c.visit.ensures.after v.in_default.ensures.answer)
     ]

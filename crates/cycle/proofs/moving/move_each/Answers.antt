@@ -36,15 +36,15 @@ loop-grant-preserved c =
         one,
         two,
         c.move_packet.ensures.sound,
-        v.delivered_is ∙ ap (λ (x : ℕ). x + 1) k ∙ sym (count_by_more_yes (λ (g : Grant). eqb g.new sizes.buffers) gs i no_grant h (eq-eqb _ _ v.if-grant-sizes.true)),
-        omega (arith, v.delivered_is),
+        v.delivered-is ∙ ap (λ (x : ℕ). x + 1) k ∙ sym (count_by_more_yes (λ (g : Grant). eqb g.new sizes.buffers) gs i no_grant h (eq-eqb _ _ v.if-grant-sizes.true)),
+        omega (arith, v.delivered-is),
       )
       | else-grant-sizes v ↦ (
         one,
         two,
         c.move_packet.ensures.sound,
-        v.delivered_is ∙ k ∙ sym (count_by_more_no (λ (g : Grant). eqb g.new sizes.buffers) gs i no_grant h (ne_eqb _ _ v.if-grant-sizes.false)),
-        omega (arith, v.delivered_is),
+        v.delivered-is ∙ k ∙ sym (count_by_more_no (λ (g : Grant). eqb g.new sizes.buffers) gs i no_grant h (ne_eqb _ _ v.if-grant-sizes.false)),
+        omega (arith, v.delivered-is),
       )
     ]
 

@@ -21,7 +21,7 @@ pub returns-in_err-packet : goal.returns-in_err-packet
 returns-in_err-packet g c =
     let sizes = c.args.sizes in
     let start = start_of (g.R.Routing.meaning c.args.routing.now) sizes c.args.cycle c.args.queues.now in
-    c.from-residual.ensures
+    c.from_residual.ensures
     ∙ sym (request_empty start c.args.granted.now (visit_of c.args.n c.args.p) c.args.b c.requires.stands c.if-granted-b.false
     (front_is sizes c.args.queues.now c.args.b c.requires.buffer None c.in_err-packet.ensures))
 
@@ -29,7 +29,7 @@ pub returns-in_err-new : goal.returns-in_err-new
 returns-in_err-new g c =
     let sizes = c.args.sizes in
     let start = start_of (g.R.Routing.meaning c.args.routing.now) sizes c.args.cycle c.args.queues.now in
-    c.from-residual-in_err-new.ensures
+    c.from_residual-in_err-new.ensures
     ∙ sym (request_first start c.args.granted.now (visit_of c.args.n c.args.p) c.args.b c.requires.stands c.if-granted-b.false c.in_ok-packet.packet None
     (front_is sizes c.args.queues.now c.args.b c.requires.buffer (Some c.in_ok-packet.packet) c.in_ok-packet.ensures) (c.in_err-new.ensures c.args.cycle))
 

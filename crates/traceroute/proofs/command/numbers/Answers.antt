@@ -28,6 +28,6 @@ loop-place-preserved c =
     let e : n + 1 ≡ i = c.loop-place.invariant.0 in
     let t = text_at ws i c.index-words-place.result c.as_str.result.now c.loop-place-test.true c.index-words-place.is c.as_str.ensures.value in
     let r : Reads (get_or (texts ws) i []) (Some c.in-Some.number) = subst (λ x. Reads x (Some c.in-Some.number)) t c.in-Some.ensures in
-    let p = c.in_ok-push.ensures in
+    let p = c.in_ok-push-in-Some.ensures in
     let w = written_more (texts ws) n (vec_items c.loop-place.all) c.loop-place.invariant.1 (vec_items c.push.new.self) c.in-Some.number (vec_len c.push.new.self) (λ j h. p.by_index.0 j 0 h) (p.by_index.1 0 refl) (subst (λ j. Reads (get_or (texts ws) j []) (Some c.in-Some.number)) (sym e) r) p.len in
     (omega (arith, p.len), w)
