@@ -5,15 +5,13 @@ ghost use Rattle.fabric.specs.Bodies.{Ready};
 
 use crate::body::Body;
 use crate::refusal::Refusal;
-use arbiter::Arbiter;
 use cycle::{Scratch, Standing};
-use network::Routing;
 use table::Table;
 
 // The routing and the arbiter as they were handed over, the routing's answers in a table, on which the calls run, and the
 // body. The bars make a proposition of the invariant, as a ghost field must be.
 #[derive(Drop)]
-pub struct Fabric<R: Routing, A: Arbiter> {
+pub struct Fabric<R, A> {
     routing: R,
     arbiter: A,
     table: Table,
