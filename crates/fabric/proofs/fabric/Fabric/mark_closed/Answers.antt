@@ -8,7 +8,7 @@ use Rattle.fabric.proofs.fabric.Fabric.mark_closed.Goals as goal
 pub invariant_of-self : goal.invariant_of-self
 invariant_of-self g c =
     let f = c.args.self.now in
-    (tt, (kept f g.A.Arbiter.rule close_feed g.met.A.Arbiter.exists f.arbiter (refed Closed f.body) refl (sound f) (performed_state f g.A.Arbiter.rule close_feed c.requires.may _ refl), (f.few, tt)))
+    record { ready = kept f g.A.Arbiter.rule close_feed g.met.A.Arbiter.exists f.arbiter (refed Closed f.body) refl (sound f) (performed_state f g.A.Arbiter.rule close_feed c.requires.may _ refl); few = f.few }
 
 pub returns : goal.returns
 returns g c = answered_done c.args.self.now g.A.Arbiter.rule close_feed c.requires.may _ refl refl refl refl refl

@@ -19,10 +19,11 @@ invariant_of-self g c =
     let rule = g.A.Arbiter.rule in
     let room = length c.args.trace.now in
     let t = c.turn.ensures in
-    let e = turned_taken (network_in f) rule f.arbiter c.turn.new.arbiter f.body c.turn.new.body _ _ _ t in (
-      kept f rule (cycle room) g.met.A.Arbiter.exists c.turn.new.arbiter c.turn.new.body t.sizes_is t.sound (performed_state f rule (cycle room) c.requires.may _ t.state_is),
-      (omega (arith, f.few), tt),
-    )
+    let e = turned_taken (network_in f) rule f.arbiter c.turn.new.arbiter f.body c.turn.new.body _ _ _ t in
+    record {
+      ready = kept f rule (cycle room) g.met.A.Arbiter.exists c.turn.new.arbiter c.turn.new.body t.sizes_is t.sound (performed_state f rule (cycle room) c.requires.may _ t.state_is);
+      few = omega (arith, f.few);
+    }
 
 pub returns : goal.returns
 returns g c =

@@ -29,14 +29,12 @@ invariant_of-self g c =
     let t = c.turn.ensures in
     let some : 0 < inside (state_of m) = subst (λ (x : ℕ). 0 < x) c.inside.ensures c.loop-trace-test.true in
     let few = cycles_few g.A.Arbiter.rule g.met.A.Arbiter.exists f m _ _ c.loop-trace.invariant.1 (drain_budget f c.requires.may) some in
-    let asked = may_cycle m 448 (visits_few m) few in (
-      kept m g.A.Arbiter.rule (cycle 448) g.met.A.Arbiter.exists c.turn.new.arbiter c.turn.new.body t.sizes_is t.sound
-          (performed_state m g.A.Arbiter.rule (cycle 448) asked _ t.state_is),
-      (
-        subst (λ (x : ℕ). x ≤ 60000) (sym (turned_taken (network_in m) g.A.Arbiter.rule m.arbiter c.turn.new.arbiter m.body c.turn.new.body _ _ _ t)) m.few,
-        tt,
-      ),
-    )
+    let asked = may_cycle m 448 (visits_few m) few in
+    record {
+      ready = kept m g.A.Arbiter.rule (cycle 448) g.met.A.Arbiter.exists c.turn.new.arbiter c.turn.new.body t.sizes_is t.sound
+          (performed_state m g.A.Arbiter.rule (cycle 448) asked _ t.state_is);
+      few = subst (λ (x : ℕ). x ≤ 60000) (sym (turned_taken (network_in m) g.A.Arbiter.rule m.arbiter c.turn.new.arbiter m.body c.turn.new.body _ _ _ t)) m.few;
+    }
 
 pub loop-trace-smaller : goal.loop-trace-smaller
 loop-trace-smaller g c =

@@ -41,11 +41,12 @@ invariant_of-self g c =
     let f = c.args.self.now in
     let q = injectable f c.args.source c.args.destination c.requires.may in
     let t = c.take_in.ensures.after in
-    let new = c.take_in.new.self in (
-      kept f g.A.Arbiter.rule (inject c.args.source c.args.destination) g.met.A.Arbiter.exists f.arbiter new t.sizes_is t.sound
-          (performed_state f g.A.Arbiter.rule (inject c.args.source c.args.destination) c.requires.may _ (injected_state f c.args.source c.args.destination q.source_in new t)),
-      (omega (arith, t.taken_is, q.under_limit), tt),
-    )
+    let new = c.take_in.new.self in
+    record {
+      ready = kept f g.A.Arbiter.rule (inject c.args.source c.args.destination) g.met.A.Arbiter.exists f.arbiter new t.sizes_is t.sound
+          (performed_state f g.A.Arbiter.rule (inject c.args.source c.args.destination) c.requires.may _ (injected_state f c.args.source c.args.destination q.source_in new t));
+      few = omega (arith, t.taken_is, q.under_limit);
+    }
 
 pub returns : goal.returns
 returns g c =

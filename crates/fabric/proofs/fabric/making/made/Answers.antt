@@ -6,11 +6,12 @@ use Rattle.fabric.proofs.fabric.making.made.Goals as goal
 
 pub invariant_of-result : goal.invariant_of-result
 invariant_of-result g c =
-    let net = g.R.Routing.meaning c.args.routing in (
-      made_ready net c.args.depth c.of-sizes.result c.of-sizes.ensures c.requires.asked c.args.arbiter c.new.result c.new.ensures
-          (network_of c.read-table.result) c.read-table.ensures c.of-standing.result c.of-standing.ensures,
-      (omega (arith, c.new.ensures.taken_is), tt),
-    )
+    let net = g.R.Routing.meaning c.args.routing in
+    record {
+      ready = made_ready net c.args.depth c.of-sizes.result c.of-sizes.ensures c.requires.asked c.args.arbiter c.new.result c.new.ensures
+          (network_of c.read-table.result) c.read-table.ensures c.of-standing.result c.of-standing.ensures;
+      few = omega (arith, c.new.ensures.taken_is);
+    }
 
 pub returns : goal.returns
 returns g c =
