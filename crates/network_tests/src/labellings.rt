@@ -5,17 +5,19 @@ use relabelling::{Labelling, LabellingRefusal, Relabelling};
 use std::process::Abort;
 use std::test::Fail;
 
+// The bytes are refused, for this reason and by this number; the case is told where they are not.
 fn check_refused(
     rt: &impl Abort,
+    case: &str,
     bytes: &[u8],
     refusal: LabellingRefusal,
     number: u8,
 ) -> Result<(), Fail> {
     match Labelling::new(bytes) {
-        Ok(_) => Err(Fail::new("the bytes are refused")),
+        Ok(_) => Err(Fail::new(format_args!("the bytes are refused: {case}"))),
         Err(answer) => {
-            assert_eq!(rt; answer, refusal);
-            assert_eq!(rt; answer.number(), number);
+            assert_eq!(rt; answer, refusal, "{case}");
+            assert_eq!(rt; answer.number(), number, "{case}");
             Ok(())
         }
     }
@@ -23,14 +25,37 @@ fn check_refused(
 
 #[test]
 fn refusals(rt: HostRuntime) -> Result<(), Fail> {
-    check_refused(&rt, &[], LabellingRefusal::Count { count: 0 }, 13)?;
-    check_refused(&rt, &[0], LabellingRefusal::Count { count: 1 }, 13)?;
-    check_refused(&rt, &[0; 65], LabellingRefusal::Count { count: 65 }, 13)?;
-    check_refused(&rt, &[9], LabellingRefusal::Count { count: 1 }, 13).note(
-        "the count comes first",
+    check_refused(
+        &rt,
+        "no bytes",
+        &[],
+        LabellingRefusal::Count { count: 0 },
+        13,
     )?;
     check_refused(
         &rt,
+        "one byte",
+        &[0],
+        LabellingRefusal::Count { count: 1 },
+        13,
+    )?;
+    check_refused(
+        &rt,
+        "65 bytes",
+        &[0; 65],
+        LabellingRefusal::Count { count: 65 },
+        13,
+    )?;
+    check_refused(
+        &rt,
+        "the count comes first",
+        &[9],
+        LabellingRefusal::Count { count: 1 },
+        13,
+    )?;
+    check_refused(
+        &rt,
+        "a byte that is too large",
         &[0, 2],
         LabellingRefusal::Outside {
             label: 1,
@@ -40,16 +65,17 @@ fn refusals(rt: HostRuntime) -> Result<(), Fail> {
     )?;
     check_refused(
         &rt,
+        "the range comes before the repeat",
         &[1, 1, 3],
         LabellingRefusal::Outside {
             label: 2,
             position: 3,
         },
         14,
-    )
-    .note("the range comes before the repeat")?;
+    )?;
     check_refused(
         &rt,
+        "one byte for all",
         &[0; 64],
         LabellingRefusal::Repeated {
             first: 0,
@@ -59,6 +85,7 @@ fn refusals(rt: HostRuntime) -> Result<(), Fail> {
     )?;
     check_refused(
         &rt,
+        "the first that repeats",
         &[3, 1, 0, 1, 3],
         LabellingRefusal::Repeated {
             first: 1,
