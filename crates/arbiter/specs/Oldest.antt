@@ -1,5 +1,5 @@
 -- The arbiter that grants the oldest packet. Assumes nothing.
-use Rattle.std.specs.Prelude.{◌≡◌, ℕ, ◌+◌, ◌<◌, ◌≤◌, cond, List, [], ◌∷◌, length, ◌≢◌, nat_lt}
+use Rattle.std.specs.Prelude.{ℕ, ◌+◌, ◌<◌, ◌≤◌, cond, List, [], ◌∷◌, length, ◌≢◌, nat_lt}
 use Rattle.arbiter.specs.declared.entry.Entry.{Entry}
 use Rattle.arbiter.specs.declared.oldest.Oldest.{Oldest}
 use Rattle.arbiter.specs.Proper.{packet_at}

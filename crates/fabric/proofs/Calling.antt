@@ -1,7 +1,6 @@
 -- A call is performed or refused, and keeps the fabric ready. Assumes nothing.
 use Rattle.std.proofs.Common.{◌≡◌, ℕ, [], Some, None, Option, sym, refl, ap, ◌∙◌, arith}
 use Rattle.queue.specs.Contents.{Sound}
-use Rattle.network.specs.Network.{Network}
 use Rattle.table.specs.TableLaws.{table_lawful}
 use Rattle.arbiter.specs.Rule.{Rule, Exists}
 use Rattle.switch.specs.Calls.{SwitchState, Call, Answer, Outcome, standard_limits, first_refusal, questions, performed, settled, perform}
@@ -12,7 +11,7 @@ use Rattle.fabric.specs.declared.body.Body.{Body}
 use Rattle.fabric.specs.declared.fabric.Fabric.{Fabric}
 use Rattle.fabric.specs.Bodies.{state_in, Ready}
 use Rattle.fabric.specs.Fabrics.{network_in, depth_in, state_of, outcome, Answered}
-use Rattle.fabric.proofs.Readiness.{fits_out, stands_out, sound_out, delivered_few, ready_after}
+use Rattle.fabric.proofs.Readiness.{fits_out, stands_out, sound_out, ready_after}
 
 not_done : (k : ℕ) → done ≡ refused k → ⊥
 not_done k e = let z : ◌≡◌ {A = ℕ} 0 1 = cc in omega arith

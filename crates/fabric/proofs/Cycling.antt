@@ -1,5 +1,5 @@
 -- The questions of a cycle, and what a performed one leaves. Assumes nothing.
-use Rattle.std.proofs.Common.{◌≡◌, ℕ, ◌+◌, ◌*◌, ◌<◌, ◌≤◌, Bool, cond, ltb, leb, List, Some, None, Option, sym, refl, ap, ◌∙◌, subst, subst₂, mul-le-mul, arith}
+use Rattle.std.proofs.Common.{◌≡◌, ℕ, ◌+◌, ◌*◌, ◌<◌, ◌≤◌, cond, ltb, leb, List, Some, None, Option, sym, ap, ◌∙◌, subst, mul-le-mul, arith}
 use Rattle.std.proofs.lemmas.Bool.{lt-ltb, le-ltb, le-leb, lt-leb, ltb-true, leb-true, cond-true, cond-false}
 use Rattle.network.specs.Network.{Network}
 use Rattle.network.proofs.Consequences.{bounds_of}

@@ -1,17 +1,15 @@
 -- The questions of an inject, and what a performed one leaves. Assumes nothing.
-use Rattle.std.proofs.Common.{◌≡◌, ℕ, ◌+◌, ◌-◌, ◌*◌, ◌<◌, ◌≤◌, Bool, true, false, cond, ltb, List, [], ◌∷◌, ◌++◌, length, set, Some, None, Option, sym, refl, ap, ◌∙◌, subst, arith}
+use Rattle.std.proofs.Common.{◌≡◌, ℕ, ◌+◌, ◌-◌, ◌*◌, ◌<◌, ◌≤◌, Bool, false, cond, ltb, List, [], ◌∷◌, ◌++◌, length, set, Some, None, Option, sym, ap, ◌∙◌, subst, arith}
 use Rattle.std.proofs.lemmas.Bool.{lt-ltb, le-ltb, ltb-true, cond-true, cond-false}
 use Rattle.queue.specs.declared.packet.Packet.{Packet}
-use Rattle.queue.specs.declared.queues.Queues.{Queues}
-use Rattle.queue.specs.Contents.{contents, Sound}
+use Rattle.queue.specs.Contents.{contents}
 use Rattle.queue.proofs.Buffers.{getD_all_contents}
-use Rattle.network.specs.Network.{Network}
 use Rattle.network.proofs.Consequences.{bounds_of}
 use Rattle.table.specs.TableLaws.{table_lawful}
 use Rattle.switch.specs.declared.feed_state.FeedState.{FeedState}
 use Rattle.switch.specs.declared.feed_state.FeedState.TheVariants.{Open}
-use Rattle.switch.specs.Places.{channel_count, buffer_count, injection_buffer}
-use Rattle.switch.specs.Buffers.{Buffers, contents as contents_of}
+use Rattle.switch.specs.Places.{buffer_count, injection_buffer}
+use Rattle.switch.specs.Buffers.{contents as contents_of}
 use Rattle.switch.specs.Calls.{is_open, with_packet}
 use Rattle.switch.specs.Calls.Call.{inject}
 use Rattle.switch.proofs.Keeping.{holds_first}

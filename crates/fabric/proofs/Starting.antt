@@ -1,7 +1,7 @@
 -- A fabric that was just made. Assumes nothing.
-use Rattle.std.proofs.Common.{◌≡◌, ℕ, ◌+◌, ◌*◌, ◌<◌, ◌≤◌, List, [], ◌∷◌, replicate, Some, None, Ok, Option, sym, refl, ap, ◌∙◌, subst, subst₂, mul-le-mul, arith}
+use Rattle.std.proofs.Common.{◌≡◌, ℕ, ◌+◌, ◌*◌, ◌≤◌, List, [], replicate, None, Ok, Option, sym, refl, ap, ◌∙◌, subst, subst₂, mul-le-mul, arith}
 use Rattle.queue.specs.declared.packet.Packet.{Packet}
-use Rattle.queue.specs.Contents.{Sound, all_contents}
+use Rattle.queue.specs.Contents.{Sound}
 use Rattle.network.specs.Network.{Network}
 use Rattle.network.specs.Laws.{Bounds}
 use Rattle.switch.specs.Places.{channel_count, buffer_count}

@@ -1,5 +1,5 @@
 -- What a cycle leaves of a body and of its trace. Assumes nothing.
-use Rattle.std.specs.Prelude.{◌≡◌, ℕ, ◌≤◌, List, length, take, drop}
+use Rattle.std.specs.Prelude.{◌≡◌, ℕ, List, length, take, drop}
 use Rattle.queue.specs.Contents.{Sound}
 use Rattle.network.specs.Network.{Network}
 use Rattle.arbiter.specs.Rule.{Rule}

@@ -15,9 +15,9 @@ use Rattle.arbiter.specs.declared.entry.Entry.{Entry}
 use Rattle.arbiter.specs.Proper.{Proper, Rising}
 use Rattle.arbiter.specs.Rule.{Rule, Exists}
 use Rattle.switch.specs.declared.grant.Grant.{Grant}
-use Rattle.switch.specs.Places.{channel_count, buffer_count, upstream, port_of, location}
+use Rattle.switch.specs.Places.{buffer_count, upstream, port_of, location}
 use Rattle.switch.specs.Buffers.{Buffers, contents}
-use Rattle.switch.specs.Cycle.{Snapshot, Visit, Decisions, next_buffer, stands_at, granting, first_request, request, cons_some, requests_from, requests, link_number, entry_of, chosen, next_arbiter, mark, after_visit, decide, node_visits, visits_from, visits}
+use Rattle.switch.specs.Cycle.{Snapshot, Visit, next_buffer, stands_at, granting, first_request, request, cons_some, requests_from, requests, link_number, entry_of, chosen, next_arbiter, mark, after_visit, decide, node_visits, visits_from, visits}
 use Rattle.switch.specs.Invariant.{Placed}
 use Rattle.switch.proofs.Numbering.{channels_le}
 use Rattle.switch.proofs.Progress.{snap, Idle, idle_empty}

@@ -1,12 +1,12 @@
 -- Where a granted packet goes: it is delivered at its destination, or hops over a link one nearer, with room at the far
 -- end, and into an escape channel only by escape. Assumes nothing.
-use Rattle.std.proofs.Common.{◌≡◌, ℕ, ◌+◌, ◌<◌, ◌≤◌, Bool, true, false, cond, ◌&&◌, eqb, ◌⊎◌, length, Some, None, Option, sym, refl, ap, ◌∙◌, subst, inl, inr, arith}
-use Rattle.std.proofs.lemmas.Bool.{ltb-true, eqb-true, eqb-false, and_parts}
+use Rattle.std.proofs.Common.{◌≡◌, ℕ, ◌+◌, ◌<◌, Bool, true, false, cond, ◌&&◌, eqb, ◌⊎◌, length, Some, None, Option, sym, refl, ap, ◌∙◌, subst, inl, inr, arith}
+use Rattle.std.proofs.lemmas.Bool.{ltb-true, eqb-true, and_parts}
 use Rattle.network.specs.declared.hop.Hop.{Hop}
 use Rattle.network.specs.Network.{Network}
 use Rattle.network.specs.Laws.{Lawful}
 use Rattle.network.proofs.Consequences.{link_asked, hop_nearer}
-use Rattle.switch.specs.Places.{channel_count, buffer_count, channel_buffer, upstream, port_of, channel_of, location}
+use Rattle.switch.specs.Places.{channel_count, buffer_count, channel_buffer, upstream, port_of, location}
 use Rattle.switch.specs.Buffers.{contents}
 use Rattle.switch.specs.Cycle.{Snapshot, has_room, is_nearer, by_escape, next_buffer}
 use Rattle.switch.specs.Invariant.{ByEscape}

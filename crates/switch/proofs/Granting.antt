@@ -1,5 +1,5 @@
 -- One grant keeps the buffers consistent with the history. Assumes nothing.
-use Rattle.std.proofs.Common.{◌≡◌, ℕ, ◌+◌, ◌<◌, ◌≤◌, Bool, cond, eqb, ◌⊎◌, List, [], ◌∷◌, ◌++◌, length, get_or, set, Some, Option, sym, refl, ap, ◌∙◌, subst, inl, inr, arith, length-set}
+use Rattle.std.proofs.Common.{◌≡◌, ℕ, ◌+◌, ◌<◌, Bool, cond, eqb, ◌⊎◌, List, [], ◌∷◌, ◌++◌, length, get_or, set, Some, Option, sym, refl, ap, ◌∙◌, subst, inl, inr, arith, length-set}
 use Rattle.std.specs.List.{AllByRecursion as All}
 use Rattle.std.proofs.ByRecursion.{All-push, All-weaker}
 use Rattle.std.proofs.lemmas.Bool.{eq-eqb, ne_eqb, cases_eq}
@@ -9,7 +9,7 @@ use Rattle.network.specs.Laws.{Lawful}
 use Rattle.network.proofs.Consequences.{link_asked}
 use Rattle.switch.specs.declared.grant.Grant.{Grant}
 use Rattle.switch.specs.Places.{buffer_count, location}
-use Rattle.switch.specs.Buffers.{Buffers, contents, enqueue, total_from, distance_from, packet_work, work_left}
+use Rattle.switch.specs.Buffers.{Buffers, enqueue, total_from, distance_from, packet_work, work_left}
 use Rattle.switch.specs.Cycle.{hopped, move}
 use Rattle.switch.specs.Calls.{Endpoints}
 use Rattle.switch.specs.History.{no_endpoints, own_distance, hops_of, deliveries_of, grants_of, position, work_of}
@@ -17,7 +17,7 @@ use Rattle.switch.specs.Law.{HopOver, DeliveryAt, Journey}
 use Rattle.switch.specs.Invariant.{InEach, Good, Hops, Travelled, Consistent, is_number, held}
 use Rattle.switch.proofs.Numbering.{channels_le}
 use Rattle.switch.proofs.Totals.{each_pop, each_push, total_pop, total_push, total_zero, move_is, move_out}
-use Rattle.switch.proofs.Tallies.{hops_other, hops_mine, hops_out, deliveries_other, deliveries_hop, deliveries_mine, all_hop, all_out, position_other, position_out, position_hop, ends_change, grants_of_mine, grants_of_other, hops_on, hops_end}
+use Rattle.switch.proofs.Tallies.{hops_other, hops_mine, hops_out, deliveries_other, deliveries_hop, deliveries_mine, all_hop, all_out, position_other, position_hop, ends_change, grants_of_mine, grants_of_other, hops_on, hops_end}
 use Rattle.switch.proofs.Forwarding.{Forwarded}
 use Rattle.switch.proofs.Deciding.{Fit, Onward}
 

@@ -1,5 +1,5 @@
 -- Every call keeps the invariant. Assumes nothing.
-use Rattle.std.proofs.Common.{◌≡◌, ℕ, zero, suc, ◌+◌, ◌<◌, ◌≤◌, Bool, true, false, cond, not, eqb, ltb, leb, ◌≢◌, ◌⊎◌, List, [], ◌∷◌, ◌++◌, length, replicate, Some, None, count_by, Option, sym, refl, ap, ◌∙◌, subst, subst₂, inl, inr, arith, length-append}
+use Rattle.std.proofs.Common.{◌≡◌, ℕ, zero, suc, ◌+◌, ◌<◌, ◌≤◌, Bool, true, false, cond, not, eqb, ltb, ◌⊎◌, List, [], ◌∷◌, ◌++◌, length, replicate, Some, None, Option, sym, refl, ap, ◌∙◌, subst, subst₂, inl, inr, arith, length-append}
 use lib.ListN.{length-replicate, get_or-replicate}
 use lib.Seq.{append_snoc}
 use Rattle.std.specs.List.{AllByRecursion as All}
@@ -12,21 +12,20 @@ use Rattle.network.specs.Network.{Network}
 use Rattle.network.specs.Laws.{Lawful}
 use Rattle.arbiter.specs.Rule.{Rule, Exists}
 use Rattle.switch.specs.declared.feed_state.FeedState.{FeedState}
-use Rattle.switch.specs.declared.feed_state.FeedState.TheVariants.{Unopened, Open, Closed}
+use Rattle.switch.specs.declared.feed_state.FeedState.TheVariants.{Open, Closed}
 use Rattle.switch.specs.declared.grant.Grant.{Grant}
 use Rattle.switch.specs.Places.{buffer_count, injection_buffer}
 use Rattle.switch.specs.Buffers.{Buffers, contents, enqueue, total_from, packet_work, work_left}
 use Rattle.switch.specs.Cycle.{delivers, moves}
-use Rattle.switch.specs.Calls.{SwitchState, Endpoints, Event, Call, Answer, Outcome, Limits, Run, empty_switch, inside, decisions, cycled_by, first_refusal, is_unopened, is_open, is_closed, below, at_most, questions, with_feed, with_packet, drain_step, draining, performed, settled, perform, run}
+use Rattle.switch.specs.Calls.{SwitchState, Endpoints, Event, Call, Outcome, Limits, empty_switch, inside, decisions, cycled_by, first_refusal, is_unopened, is_open, below, questions, with_feed, with_packet, drain_step, draining, performed, settled, perform, run}
 use Rattle.switch.specs.Calls.Event.{injected, cycled, drained, closed}
 use Rattle.switch.specs.Calls.Call.{open_feed, inject, cycle, drain, close_feed}
-use Rattle.switch.specs.History.{injections, grants_in, is_cycle, is_drain, cycles_in, hop_count, delivery_count, inside_in, work_in}
-use Rattle.switch.specs.Law.{EachCycle, NeverLocks}
-use Rattle.switch.specs.Invariant.{Placed, Good, Consistent, SinceClose, Closing, Invariant, held}
+use Rattle.switch.specs.History.{injections, grants_in, is_cycle, cycles_in, hop_count, delivery_count, inside_in, work_in}
+use Rattle.switch.specs.Invariant.{Placed, Good, Consistent, SinceClose, Invariant, held}
 use Rattle.switch.proofs.Totals.{total_none, total_le, total_zero, some_packet}
 use Rattle.switch.proofs.Progress.{snap}
 use Rattle.switch.proofs.Deciding.{cycle_ready, cycle_some}
-use Rattle.switch.proofs.Moving.{Moved, Joined, moves_step, join_short, ready_numbered}
+use Rattle.switch.proofs.Moving.{Moved, moves_step, join_short, ready_numbered}
 use Rattle.switch.proofs.Injecting.{inject_step}
 use Rattle.switch.proofs.Histories.{injections_append, grants_append, hops_and_deliveries, each_none, each_push, Falls, closing_none, closing_push, never_closed}
 

@@ -1,7 +1,6 @@
 -- The law of runs, from the invariant. Assumes nothing.
 use Rattle.std.proofs.Common.{◌≡◌, ℕ, zero, suc, ◌+◌, ◌-◌, ◌*◌, ◌<◌, ◌≤◌, Bool, true, false, cond, ◌&&◌, eqb, ltb, leb, ◌⊎◌, List, [], ◌∷◌, ◌++◌, length, get_or, Some, None, Option, sym, refl, ap, ◌∙◌, subst, inl, inr, mul-le-mul_left, mul-one, arith}
 use lib.Seq.{append_snoc}
-use Rattle.std.specs.List.{AllByRecursion as All}
 use Rattle.std.proofs.ByRecursion.{All-get_or}
 use Rattle.std.proofs.lemmas.List.{append-nil}
 use Rattle.std.proofs.lemmas.List.Sums.{sum_by-cons, sum_by_push}
@@ -10,16 +9,15 @@ use Rattle.network.specs.Network.{Network}
 use Rattle.network.specs.Laws.{Lawful}
 use Rattle.network.proofs.Walking.{walk_long}
 use Rattle.arbiter.specs.Rule.{Rule, Exists}
-use Rattle.switch.specs.declared.grant.Grant.{Grant}
 use Rattle.switch.specs.declared.report.Report.{Report}
 use Rattle.switch.specs.Places.{buffer_count}
 use Rattle.switch.specs.Buffers.{Buffers, total_from, work_left}
 use Rattle.switch.specs.Calls.{SwitchState, Endpoints, Event, Call, Outcome, Limits, Run, empty_switch, inside, report_of, first_refusal, make_questions, decisions, cycled_by, questions, drain_step, draining, performed, settled, perform, run}
 use Rattle.switch.specs.Calls.Event.{cycled, drained}
 use Rattle.switch.specs.Calls.Call.{open_feed, inject, cycle, drain, close_feed}
-use Rattle.switch.specs.History.{injections, grants_in, is_cycle, is_drain, cycles_in, drains_in, inside_in, no_endpoints, deliveries_of, grants_of, hop_count, delivery_count, work_in, report_in}
-use Rattle.switch.specs.Law.{Journey, Once, EachCycle, Ledger, Tells, Drained, Drains, Law, LawOfRuns, SwitchLaw}
-use Rattle.switch.specs.Invariant.{Travelled, Consistent, Invariant, is_number, held}
+use Rattle.switch.specs.History.{injections, grants_in, is_cycle, is_drain, cycles_in, drains_in, inside_in, no_endpoints, grants_of, hop_count, delivery_count, work_in, report_in}
+use Rattle.switch.specs.Law.{Journey, Once, EachCycle, Ledger, Tells, Drained, Drains, Law, SwitchLaw}
+use Rattle.switch.specs.Invariant.{Travelled, Invariant, is_number, held}
 use Rattle.switch.proofs.Totals.{total_le}
 use Rattle.switch.proofs.Tallies.{hops_journey}
 use Rattle.switch.proofs.Histories.{hops_and_deliveries, each_none, each_cons, each_push}

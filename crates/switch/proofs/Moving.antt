@@ -1,11 +1,10 @@
 -- All grants of a cycle, carried out one after another. Assumes nothing.
-use Rattle.std.proofs.Common.{◌≡◌, ℕ, suc, ◌+◌, ◌<◌, ◌≤◌, Bool, true, false, ◌≢◌, ◌⊎◌, List, [], ◌∷◌, ◌++◌, length, get_or, set, sym, refl, ap, ◌∙◌, subst, inl, inr, arith, length-append, length-set}
+use Rattle.std.proofs.Common.{◌≡◌, ℕ, suc, ◌+◌, ◌<◌, ◌≤◌, Bool, true, false, ◌≢◌, ◌⊎◌, List, [], ◌∷◌, ◌++◌, length, get_or, set, sym, ap, ◌∙◌, subst, inl, inr, arith, length-append, length-set}
 use lib.Seq.{append_snoc}
 use Rattle.std.specs.List.{AllByRecursion as All}
 use Rattle.std.proofs.lemmas.List.{get_or-set_same, get_or-set_other, set_past, append-nil, append_assoc}
 use Rattle.std.proofs.lemmas.Bool.{cases_eq, cases_lt}
 use Rattle.queue.specs.declared.packet.Packet.{Packet}
-use Rattle.network.specs.Network.{Network}
 use Rattle.network.specs.Laws.{Lawful}
 use Rattle.switch.specs.declared.grant.Grant.{Grant}
 use Rattle.switch.specs.Places.{buffer_count}
@@ -13,7 +12,7 @@ use Rattle.switch.specs.Buffers.{Buffers, contents, enqueue}
 use Rattle.switch.specs.Cycle.{Snapshot, hopped, move, moves}
 use Rattle.switch.specs.Calls.{Endpoints}
 use Rattle.switch.specs.Invariant.{Consistent}
-use Rattle.switch.proofs.Totals.{move_is, length_move}
+use Rattle.switch.proofs.Totals.{move_is}
 use Rattle.switch.proofs.Deciding.{Fit, Free, Ready}
 use Rattle.switch.proofs.Granting.{grant_step}
 

@@ -5,7 +5,7 @@ use Rattle.std.proofs.lemmas.Bool.{ltb-false, eq-eqb, ne_eqb, cond-true}
 use Rattle.queue.specs.declared.packet.Packet.{Packet}
 use Rattle.network.specs.declared.hop.Hop.{Hop}
 use Rattle.network.specs.Network.{Network}
-use Rattle.network.specs.Laws.{Lawful, Leads, Nearer}
+use Rattle.network.specs.Laws.{Lawful, Leads}
 use Rattle.network.proofs.Options.{some_none}
 use Rattle.network.proofs.Consequences.{hop_nearer, hop_node, hop_rises, rank_under}
 use Rattle.switch.specs.Places.{channel_count, buffer_count, channel_buffer, upstream, port_of, channel_of, location}

@@ -8,7 +8,7 @@ use Rattle.switch.specs.declared.grant.Grant.{Grant}
 use Rattle.switch.specs.declared.report.Report.{Report}
 use Rattle.switch.specs.Places.{buffer_count, injection_buffer}
 use Rattle.switch.specs.Buffers.{Buffers, contents, enqueue, work_left}
-use Rattle.switch.specs.Cycle.{Snapshot, Decisions, decide, visits, moves, delivers}
+use Rattle.switch.specs.Cycle.{Decisions, decide, visits, moves, delivers}
 
 -- The state of the switch, with an arbiter in a state of type Arb: the buffers, the packets taken in and delivered, the
 -- hops made, the cycles performed, the feed, and the arbiter's state.

@@ -1,4 +1,4 @@
-use Rattle.std.proofs.Common.{arith, rules}
+use Rattle.std.proofs.Common.{arith}
 use Rattle.switch.specs.Calls.Call.{drain}
 use Rattle.fabric.proofs.Calling.{answered_refused}
 use Rattle.fabric.proofs.Draining.{ask_closed, ask_budget, may_drain}

@@ -1,5 +1,4 @@
-use Rattle.std.proofs.Common.{◌≡◌, ℕ, ◌+◌, ◌-◌, ◌<◌, ◌≤◌, length, arith}
-use Rattle.queue.specs.Contents.{contents}
+use Rattle.std.proofs.Common.{arith}
 use Rattle.switch.specs.Calls.Call.{inject}
 use Rattle.fabric.specs.Fabrics.{network_in, depth_in}
 use Rattle.cycle.proofs.Fitting.{buffers_few}

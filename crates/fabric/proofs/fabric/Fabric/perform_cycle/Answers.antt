@@ -1,4 +1,4 @@
-use Rattle.std.proofs.Common.{◌≡◌, ℕ, ◌≤◌, length, refl, ap, arith}
+use Rattle.std.proofs.Common.{length, refl, ap, arith}
 use Rattle.switch.specs.Calls.Answer.{number}
 use Rattle.switch.specs.Calls.Call.{cycle}
 use Rattle.cycle.specs.declared.sizes.Sizes.{Sizes}

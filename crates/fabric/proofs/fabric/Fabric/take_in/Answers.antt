@@ -1,4 +1,4 @@
-use Rattle.std.proofs.Common.{◌≡◌, ℕ, ◌+◌, ◌-◌, ◌*◌, ◌<◌, ◌≤◌, refl, ap, subst, arith}
+use Rattle.std.proofs.Common.{refl, ap, arith}
 use mir.Facts.{Fits-below}
 use Rattle.switch.specs.Calls.Answer.{number}
 use Rattle.switch.specs.Calls.Call.{inject}

@@ -1,7 +1,7 @@
-use Rattle.std.proofs.Common.{◌≤◌, refl, arith}
+use Rattle.std.proofs.Common.{refl, arith}
 use Rattle.table.specs.Tables.{network_of}
 use Rattle.switch.proofs.LawHolds.{switch_law}
-use Rattle.fabric.proofs.Starting.{made_fits, made_state, made_depth, made_ready}
+use Rattle.fabric.proofs.Starting.{made_state, made_depth, made_ready}
 use Rattle.fabric.proofs.fabric.making.made.Goals as goal
 
 pub invariant_of-result : goal.invariant_of-result
