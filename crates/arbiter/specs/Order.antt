@@ -1,7 +1,7 @@
 -- The loop that tests a list's order, and what its answer says. Assumes nothing.
 use Rattle.std.specs.Prelude.{◌≡◌, ℕ, zero, suc, ◌+◌, ◌<◌, ◌≤◌, Bool, true, false, ◌&&◌, List, [], ◌∷◌, length, drop, Some, None, Decides, Option, nat_lt, refl}
 use Rattle.std.proofs.Common.{sym, ap, ◌∙◌, arith}
-use Rattle.std.specs.List.{AllByRecursion as All}
+use Rattle.std.specs.List.{AllByRecursion}
 use Rattle.std.proofs.lemmas.List.{at_drop_more, at_drop_all}
 use Rattle.std.proofs.lemmas.Bool.Decides.{Decides-at}
 use Rattle.std.proofs.ByRecursion.{All-weaker, All-get_or}
@@ -33,7 +33,7 @@ above_trans None b c h k = tt
 above_trans (Some a) b c h k = omega arith
 
 pub record After (last : Option ℕ) (es : List Entry) : Type 0 where
-  pub above : All (λ e. Above last e.buffer) es
+  pub above : AllByRecursion (λ e. Above last e.buffer) es
   pub order : Ordered es
 
 pub from_ordered : (last : Option ℕ) (es : List Entry) → ordered last es ≡ true → After last es
@@ -54,7 +54,7 @@ to_ordered last (x ∷ es) a =
     (to_follows last x.buffer a.above.0 a.order.under.0)
     (to_ordered (Some x.buffer) es (record { above = a.order.rising.0; order = record { rising = a.order.rising.1; under = a.order.under.1 } }))
 
-above_none : (es : List Entry) → All (λ e. Above None e.buffer) es
+above_none : (es : List Entry) → AllByRecursion (λ e. Above None e.buffer) es
 above_none [] = tt
 above_none (x ∷ es) = (tt, above_none es)
 

@@ -1,6 +1,6 @@
 -- The lists that an arbiter answers. Assumes nothing.
 use Rattle.std.specs.Prelude.{ℕ, ◌<◌, ◌≤◌, Bool, ◌&&◌, List, [], ◌∷◌, length, Some, None, Option, nat_lt, slice_index_or}
-use Rattle.std.specs.List.{AllByRecursion as All}
+use Rattle.std.specs.List.{AllByRecursion}
 use Rattle.arbiter.specs.declared.entry.Entry.{Entry}
 
 -- Link numbers are under the one, and buffer numbers under the other.
@@ -25,12 +25,12 @@ packet_at es i = (slice_index_or es i no_entry).packet
 -- The buffer numbers rise strictly.
 abbrev pub Rising : List Entry → Type 0
 Rising [] = Unit {0}
-Rising (e ∷ es) = All (λ f. e.buffer < f.buffer) es × Rising es
+Rising (e ∷ es) = AllByRecursion (λ f. e.buffer < f.buffer) es × Rising es
 
 -- They rise strictly and are under 2,048.
 pub record Ordered (es : List Entry) : Type 0 where
   pub rising : Rising es
-  pub under : All (λ e. e.buffer < buffer_limit) es
+  pub under : AllByRecursion (λ e. e.buffer < buffer_limit) es
 
 -- Asked for a link: a link number under 448, and 1 to 2,048 entries in order.
 pub record Proper (link : ℕ) (es : List Entry) : Type 0 where

@@ -1,6 +1,6 @@
 -- A pop and a push are a move of the definition. Assumes nothing.
 use Rattle.std.proofs.Common.{◌≡◌, ℕ, ◌+◌, ◌*◌, ◌<◌, ◌≤◌, Bool, ◌≢◌, List, [], ◌∷◌, ◌++◌, length, get_or, drop, set, Some, None, sym, refl, ap, ◌∙◌, subst, arith}
-use Rattle.std.specs.List.{AllByRecursion as All, slice_get}
+use Rattle.std.specs.List.{AllByRecursion, slice_get}
 use Rattle.std.proofs.lemmas.List.{drop_more, at_drop_more, at_drop_all}
 use Rattle.std.proofs.lemmas.Bool.{eq-eqb, ne_eqb}
 use Rattle.queue.specs.declared.packet.Packet.{Packet}
@@ -54,7 +54,7 @@ module _ (sizes : Sizes) (old mid : Queues) (g : Grant) (movable : Movable sizes
     left_is = p.rest.all sizes.buffers ∙ ap (λ (xs : List Packet). set (buffers_in sizes old) g.old (drop 1 xs)) (sym contents_is)
 
     pub first_hops : q.hops ≤ 64
-    first_hops = (subst (λ (xs : List Packet). All (λ (x : Packet). x.hops ≤ 64) xs) first_is movable.few_hops).0
+    first_hops = (subst (λ (xs : List Packet). AllByRecursion (λ (x : Packet). x.hops ≤ 64) xs) first_is movable.few_hops).0
 
     -- it is delivered
     pub moved_out : g.new ≡ sizes.buffers → Moved sizes old mid g

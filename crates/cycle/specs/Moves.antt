@@ -1,6 +1,6 @@
 -- Grants that can be carried out one after another, and what carrying them out leaves. Assumes nothing.
 use Rattle.std.specs.Prelude.{◌≡◌, ℕ, ◌<◌, ◌≤◌, List, [], ◌∷◌, length, drop, count_by, nat_eq, slice_set}
-use Rattle.std.specs.List.{AllByRecursion as All}
+use Rattle.std.specs.List.{AllByRecursion}
 use Rattle.queue.specs.declared.packet.Packet.{Packet}
 use Rattle.queue.specs.declared.queues.Queues.{Queues}
 use Rattle.queue.specs.Contents.{Sound}
@@ -16,7 +16,7 @@ pub record Movable (sizes : Sizes) (bs : Buffers) (g : Grant) : Type 0 where
   pub old_under : g.old < sizes.buffers
   pub new_under : g.new ≤ sizes.buffers
   pub room : g.new < sizes.buffers → length (contents (slice_set bs g.old (drop 1 (contents bs g.old))) g.new) < sizes.depth
-  pub few_hops : All (λ (q : Packet). q.hops ≤ 64) (contents bs g.old)
+  pub few_hops : AllByRecursion (λ (q : Packet). q.hops ≤ 64) (contents bs g.old)
 
 -- The grants can be carried out one after another.
 abbrev pub AllMovable : Sizes → Buffers → List Grant → Type 0

@@ -1,6 +1,6 @@
 -- A cycle of a switch that holds no packet: nothing is granted, and only the cycle is counted. Assumes nothing.
 use Rattle.std.proofs.Common.{◌≡◌, ℕ, zero, suc, ◌+◌, ◌<◌, ◌≤◌, Bool, true, false, cond, not, ◌&&◌, ◌⊎◌, List, [], ◌∷◌, length, get_or, replicate, None, Option, refl, ap, ◌∙◌, inl, inr, add-zero, arith}
-use Rattle.std.specs.List.{AllByRecursion as All}
+use Rattle.std.specs.List.{AllByRecursion}
 use Rattle.std.proofs.lemmas.List.{get_or_past}
 use Rattle.std.proofs.lemmas.Bool.{cases_lt}
 use Rattle.queue.specs.declared.packet.Packet.{Packet}
@@ -15,7 +15,7 @@ use Rattle.switch.specs.Invariant.{held}
 use Rattle.switch.proofs.Totals.{total_zero}
 use Rattle.switch.proofs.Progress.{snap}
 
-no_packet : (qs : List Packet) → All (λ q. ◌≡◌ {A = ℕ} 1 0) qs → qs ≡ []
+no_packet : (qs : List Packet) → AllByRecursion (λ q. ◌≡◌ {A = ℕ} 1 0) qs → qs ≡ []
 no_packet [] h = refl
 no_packet (q ∷ qs) h = absurd (let e = h.0 in let z : ⊥ = omega arith in z)
 

@@ -3,7 +3,7 @@ use Rattle.std.proofs.Common.{◌≡◌, ℕ, ◌<◌, ◌≤◌, Bool, true, fa
 use mathlib.Core.HLevel.{Unit-prop}
 use native.Mathlib.Bridge.{le_prop}
 use lib.ListN.{length-replicate}
-use Rattle.std.specs.List.{AllByRecursion as All}
+use Rattle.std.specs.List.{AllByRecursion}
 use Rattle.std.proofs.ByRecursion.{All-weaker}
 use Rattle.std.proofs.lemmas.List.{append-nil}
 use Rattle.queue.specs.declared.packet.Packet.{Packet}
@@ -29,7 +29,7 @@ use Rattle.cycle.specs.Moves.{Movable, AllMovable}
 use Rattle.fabric.proofs.Readiness.{count_fits}
 
 -- That grants can be carried out holds in one way only.
-few_hops_prop : (qs : List Packet) → IsProp (All (λ (q : Packet). q.hops ≤ 64) qs)
+few_hops_prop : (qs : List Packet) → IsProp (AllByRecursion (λ (q : Packet). q.hops ≤ 64) qs)
 few_hops_prop [] p q = Unit-prop p q
 few_hops_prop (x ∷ xs) p q = λ i. (le_prop p.0 q.0 i, few_hops_prop xs p.1 q.1 i)
 

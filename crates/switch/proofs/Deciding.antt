@@ -3,7 +3,7 @@
 use Rattle.std.proofs.Common.{◌≡◌, ℕ, zero, suc, ◌+◌, ◌*◌, ◌<◌, ◌≤◌, Bool, true, false, cond, not, ◌&&◌, ◌≢◌, ◌⊎◌, List, [], ◌∷◌, ◌++◌, map, length, get_or, set, replicate, Some, None, Option, sym, refl, ap, ◌∙◌, subst, inl, inr, mul-le-mul_right, arith, length-append}
 use lib.Arith.{digits_lt}
 use lib.ListN.{length-map, length-replicate, get_or-replicate}
-use Rattle.std.specs.List.{AllByRecursion as All}
+use Rattle.std.specs.List.{AllByRecursion}
 use Rattle.std.proofs.ByRecursion.{All-get_or, All-weaker, All-map, All-append}
 use Rattle.std.proofs.lemmas.List.{get_or_past}
 use Rattle.std.proofs.lemmas.Bool.{eqb-true, and_parts, not-true, cases_eq, cases_lt}
@@ -87,13 +87,13 @@ module _ (start : Snapshot) (granted : List Bool) (v : Visit) where
   wider b k g h = (h.0, h.1, (omega (arith, h.2)), (omega (arith, h.3)))
 
   -- What is listed is requested, in rising order,
-  requests_listed : (k b : ℕ) → All (Listed b k) (requests_from start granted v k b)
+  requests_listed : (k b : ℕ) → AllByRecursion (Listed b k) (requests_from start granted v k b)
   unfolding requests_from
   requests_listed zero b = tt
   requests_listed (suc k) b = go (request start granted v b) refl (requests_listed k (suc b))
     where
-      go : (o : Option Grant) → request start granted v b ≡ o → All (Listed (suc b) k) (requests_from start granted v k (suc b))
-          → All (Listed b (suc k)) (cons_some o (requests_from start granted v k (suc b)))
+      go : (o : Option Grant) → request start granted v b ≡ o → AllByRecursion (Listed (suc b) k) (requests_from start granted v k (suc b))
+          → AllByRecursion (Listed b (suc k)) (cons_some o (requests_from start granted v k (suc b)))
       go None e r = All-weaker (Listed (suc b) k) (Listed b (suc k)) (wider b k) _ r
       go (Some g) e r =
           let f = from_request b g e in
@@ -138,21 +138,21 @@ module _ (start : Snapshot) (granted : List Bool) (v : Visit) where
       go (Some g) x y r c = cc
 
 -- The visits: what holds of each,
-all_left : {X : Type 0} (P : X → Type 0) (xs ys : List X) → All P (xs ++ ys) → All P xs
+all_left : {X : Type 0} (P : X → Type 0) (xs ys : List X) → AllByRecursion P (xs ++ ys) → AllByRecursion P xs
 all_left P [] ys h = tt
 all_left P (x ∷ xs) ys h = (h.0, all_left P xs ys h.1)
 
-all_right : {X : Type 0} (P : X → Type 0) (xs ys : List X) → All P (xs ++ ys) → All P ys
+all_right : {X : Type 0} (P : X → Type 0) (xs ys : List X) → AllByRecursion P (xs ++ ys) → AllByRecursion P ys
 all_right P [] ys h = h
 all_right P (x ∷ xs) ys h = all_right P xs ys h.1
 
 module _ (Q : Visit → Type 0) where
-  node_all : (n k p : ℕ) → ((j : ℕ) → p ≤ j → j < p + k → Q (record { node = n; port = j })) → All Q (node_visits n k p)
+  node_all : (n k p : ℕ) → ((j : ℕ) → p ≤ j → j < p + k → Q (record { node = n; port = j })) → AllByRecursion Q (node_visits n k p)
   unfolding node_visits
   node_all n zero p h = tt
   node_all n (suc k) p h = (h p (omega arith) (omega arith), node_all n k (suc p) (λ j a b. h j (omega arith) (omega arith)))
 
-  node_at : (n k p : ℕ) → All Q (node_visits n k p) → (j : ℕ) → p ≤ j → j < p + k → Q (record { node = n; port = j })
+  node_at : (n k p : ℕ) → AllByRecursion Q (node_visits n k p) → (j : ℕ) → p ≤ j → j < p + k → Q (record { node = n; port = j })
   unfolding node_visits
   node_at n zero p h j a b = absurd (let z : ⊥ = omega arith in z)
   node_at n (suc k) p h j a b = go (cases_eq j p) (λ d. node_at n k (suc p) h.1 j (omega arith) (omega arith))
@@ -161,31 +161,31 @@ module _ (Q : Visit → Type 0) where
       go (inl s) r = subst (λ (x : ℕ). Q (record { node = n; port = x })) (sym s) h.0
       go (inr d) r = r d
 
-  visits_all : (k j n : ℕ) → ((i : ℕ) → n ≤ i → i < n + j → All Q (node_visits i k 0)) → All Q (visits_from k j n)
+  visits_all : (k j n : ℕ) → ((i : ℕ) → n ≤ i → i < n + j → AllByRecursion Q (node_visits i k 0)) → AllByRecursion Q (visits_from k j n)
   unfolding visits_from
   visits_all k zero n h = tt
   visits_all k (suc j) n h =
       All-append Q (node_visits n k 0) (visits_from k j (suc n)) (h n (omega arith) (omega arith)) (visits_all k j (suc n) (λ i a b. h i (omega arith) (omega arith)))
 
-  visits_at : (k j n : ℕ) → All Q (visits_from k j n) → (i : ℕ) → n ≤ i → i < n + j → All Q (node_visits i k 0)
+  visits_at : (k j n : ℕ) → AllByRecursion Q (visits_from k j n) → (i : ℕ) → n ≤ i → i < n + j → AllByRecursion Q (node_visits i k 0)
   unfolding visits_from
   visits_at k zero n h i a b = absurd (let z : ⊥ = omega arith in z)
   visits_at k (suc j) n h i a b =
       go (cases_eq i n) (λ d. visits_at k j (suc n) (all_right Q (node_visits n k 0) (visits_from k j (suc n)) h) i (omega arith) (omega arith))
     where
-      go : (i ≡ n) ⊎ (i ≡ n → ⊥) → ((i ≡ n → ⊥) → All Q (node_visits i k 0)) → All Q (node_visits i k 0)
-      go (inl s) r = subst (λ (x : ℕ). All Q (node_visits x k 0)) (sym s) (all_left Q (node_visits n k 0) (visits_from k j (suc n)) h)
+      go : (i ≡ n) ⊎ (i ≡ n → ⊥) → ((i ≡ n → ⊥) → AllByRecursion Q (node_visits i k 0)) → AllByRecursion Q (node_visits i k 0)
+      go (inl s) r = subst (λ (x : ℕ). AllByRecursion Q (node_visits x k 0)) (sym s) (all_left Q (node_visits n k 0) (visits_from k j (suc n)) h)
       go (inr d) r = r d
 
 abbrev pub Visitable : Network → Visit → Type 0
 Visitable net v = (v.node < net.nodes) × (v.port ≤ net.ports)
 
-visits_visitable : (net : Network) → All (Visitable net) (visits net)
+visits_visitable : (net : Network) → AllByRecursion (Visitable net) (visits net)
 visits_visitable net =
     visits_all (Visitable net) (net.ports + 1) net.nodes 0
     (λ i _ h. node_all (Visitable net) i (net.ports + 1) 0 (λ j _ l. (omega arith, omega arith)))
 
-every_visit : (net : Network) (Q : Visit → Type 0) → All Q (visits net) → (n p : ℕ) → n < net.nodes → p ≤ net.ports → Q (record { node = n; port = p })
+every_visit : (net : Network) (Q : Visit → Type 0) → AllByRecursion Q (visits net) → (n p : ℕ) → n < net.nodes → p ≤ net.ports → Q (record { node = n; port = p })
 every_visit net Q h n p hn hp =
     node_at Q n (net.ports + 1) 0 (visits_at Q (net.ports + 1) net.nodes 0 h n (omega arith) (omega arith)) p (omega arith) (omega arith)
 
@@ -195,9 +195,9 @@ Apart u v = u.node ≡ v.node → u.port ≡ v.port → ⊥
 
 abbrev Distinct : List Visit → Type 0
 Distinct [] = Unit {0}
-Distinct (v ∷ vs) = All (Apart v) vs × Distinct vs
+Distinct (v ∷ vs) = AllByRecursion (Apart v) vs × Distinct vs
 
-distinct_append : (xs ys : List Visit) → Distinct xs → Distinct ys → All (λ x. All (Apart x) ys) xs → Distinct (xs ++ ys)
+distinct_append : (xs ys : List Visit) → Distinct xs → Distinct ys → AllByRecursion (λ x. AllByRecursion (Apart x) ys) xs → Distinct (xs ++ ys)
 distinct_append [] ys a b c = b
 distinct_append (x ∷ xs) ys a b c = (All-append (Apart x) xs ys a.0 c.0, distinct_append xs ys a.1 b c.1)
 
@@ -211,7 +211,7 @@ unfolding visits_from
 visits_distinct k zero n = tt
 visits_distinct k (suc j) n =
     distinct_append (node_visits n k 0) (visits_from k j (suc n)) (node_distinct n k 0) (visits_distinct k j (suc n))
-    (node_all (λ x. All (Apart x) (visits_from k j (suc n))) n k 0
+    (node_all (λ x. AllByRecursion (Apart x) (visits_from k j (suc n))) n k 0
     (λ i _ _. visits_all (Apart (record { node = n; port = i })) k j (suc n)
     (λ m a _. node_all (Apart (record { node = n; port = i })) m k 0 (λ l _ _ e _. omega arith))))
 
@@ -231,7 +231,7 @@ pub record Fit (net : Network) (bs : Buffers) (g : Grant) : Type 0 where
 
 -- Buffer c is for delivery, or has room and was joined by none of the grants before.
 abbrev pub Free : Snapshot → List ℕ → ℕ → Type 0
-Free start joined c = (c ≡ buffer_count start.network) ⊎ ((length (contents start.buffers c) < start.depth) × All (λ f. c ≢ f) joined)
+Free start joined c = (c ≡ buffer_count start.network) ⊎ ((length (contents start.buffers c) < start.depth) × AllByRecursion (λ f. c ≢ f) joined)
 
 -- The grants can be carried out one after another, where some buffers were granted and joined before.
 abbrev pub Ready : Snapshot → List Bool → List ℕ → List Grant → Type 0
@@ -242,13 +242,13 @@ Ready start granted joined (g ∷ gs) =
 
 -- What was joined is for delivery, or belongs to no visit that is to come.
 abbrev Past : Network → List ℕ → List Visit → Type 0
-Past net joined vs = All (λ f. (f ≡ buffer_count net) ⊎ All (λ v. upstream net f ≡ v.node → port_of net f ≡ v.port → ⊥) vs) joined
+Past net joined vs = AllByRecursion (λ f. (f ≡ buffer_count net) ⊎ AllByRecursion (λ v. upstream net f ≡ v.node → port_of net f ≡ v.port → ⊥) vs) joined
 
 past_on : (net : Network) (v : Visit) (vs : List Visit) (joined : List ℕ) → Past net joined (v ∷ vs) → Past net joined vs
 past_on net v vs joined past = All-weaker _ _ (λ f h. go f h) joined past
   where
-    go : (f : ℕ) → (f ≡ buffer_count net) ⊎ All (λ u. upstream net f ≡ u.node → port_of net f ≡ u.port → ⊥) (v ∷ vs)
-        → (f ≡ buffer_count net) ⊎ All (λ u. upstream net f ≡ u.node → port_of net f ≡ u.port → ⊥) vs
+    go : (f : ℕ) → (f ≡ buffer_count net) ⊎ AllByRecursion (λ u. upstream net f ≡ u.node → port_of net f ≡ u.port → ⊥) (v ∷ vs)
+        → (f ≡ buffer_count net) ⊎ AllByRecursion (λ u. upstream net f ≡ u.node → port_of net f ≡ u.port → ⊥) vs
     go f (inl s) = inl s
     go f (inr a) = inr a.1
 
@@ -257,12 +257,12 @@ module _ (start : Snapshot) (v : Visit) (vs : List Visit) (joined : List ℕ) (p
   free_from (inl s) = inl s.0
   free_from (inr f) = inr (f.1, All-weaker _ (λ x. c ≢ x) (λ x h e. go x h e) joined past)
     where
-      go : (x : ℕ) → (x ≡ buffer_count start.network) ⊎ All (λ u. upstream start.network x ≡ u.node → port_of start.network x ≡ u.port → ⊥) (v ∷ vs) → c ≡ x → ⊥
+      go : (x : ℕ) → (x ≡ buffer_count start.network) ⊎ AllByRecursion (λ u. upstream start.network x ≡ u.node → port_of start.network x ≡ u.port → ⊥) (v ∷ vs) → c ≡ x → ⊥
       go x (inl s) e = omega (arith, f.0.under, channels_le start.network)
       go x (inr a) e =
           a.0 (ap (λ (y : ℕ). upstream start.network y) (sym e) ∙ f.0.upstream_is) (ap (λ (y : ℕ). port_of start.network y) (sym e) ∙ f.0.port_is)
 
-  past_more : All (Apart v) vs → Goes start v.node v.port c d → Past start.network (c ∷ joined) vs
+  past_more : AllByRecursion (Apart v) vs → Goes start v.node v.port c d → Past start.network (c ∷ joined) vs
   past_more apart (inl s) = (inl s.0, past_on start.network v vs joined past)
   past_more apart (inr f) = (
     inr (All-weaker (Apart v) (λ u. upstream start.network c ≡ u.node → port_of start.network c ≡ u.port → ⊥)
@@ -309,10 +309,10 @@ module _ {Arb : Type 0} (start : Snapshot) (law : Lawful start.network) (rule : 
       let u = exists a (link_number start.network v) (map entry_of (r ∷ rs)) p in
       let l = length-map (r ∷ rs) entry_of in
       All-get_or (Listed start granted v 0 (buffer_count start.network)) (r ∷ rs) _ r (omega arith)
-      (subst (λ (xs : List Grant). All (Listed start granted v 0 (buffer_count start.network)) xs) e (requests_listed start granted v (buffer_count start.network) 0))
+      (subst (λ (xs : List Grant). AllByRecursion (Listed start granted v 0 (buffer_count start.network)) xs) e (requests_listed start granted v (buffer_count start.network) 0))
 
   -- The grants of the visits can be carried out.
-  decide_ready : (vs : List Visit) → All (Visitable start.network) vs → Distinct vs → (granted : List Bool) (joined : List ℕ) (a : Arb)
+  decide_ready : (vs : List Visit) → AllByRecursion (Visitable start.network) vs → Distinct vs → (granted : List Bool) (joined : List ℕ) (a : Arb)
       → Past start.network joined vs → Ready start granted joined (decide start rule vs granted a).grants
   unfolding decide
   decide_ready [] ok apart granted joined a past = tt
@@ -372,14 +372,14 @@ length_visits k (suc j) n =
 
 -- Where nothing is granted, nothing was requested.
 decide_none : {Arb : Type 0} (start : Snapshot) (rule : Rule Arb) (vs : List Visit) (granted : List Bool) (a : Arb) → (decide start rule vs granted a).grants ≡ []
-    → All (λ v. requests start granted v ≡ []) vs
+    → AllByRecursion (λ v. requests start granted v ≡ []) vs
 unfolding decide
 decide_none start rule [] granted a h = tt
 decide_none start rule (v ∷ vs) granted a h = go (requests start granted v) refl h (decide_none start rule vs granted a)
   where
     go : (os : List Grant) → requests start granted v ≡ os → (after_visit start.network rule v (decide start rule vs) granted a os).grants ≡ []
-        → ((decide start rule vs granted a).grants ≡ [] → All (λ x. requests start granted x ≡ []) vs)
-        → (requests start granted v ≡ []) × All (λ x. requests start granted x ≡ []) vs
+        → ((decide start rule vs granted a).grants ≡ [] → AllByRecursion (λ x. requests start granted x ≡ []) vs)
+        → (requests start granted v ≡ []) × AllByRecursion (λ x. requests start granted x ≡ []) vs
     go [] e k r = (e, r k)
     go (o ∷ os) e k r = let z : ◌≡◌ {A = ℕ} 0 1 = cc in absurd (let f : ⊥ = omega arith in f)
 
@@ -408,7 +408,7 @@ module _ {Arb : Type 0} (net : Network) (law : Lawful net) (rule : Rule Arb) (ex
       omega arith
 
   -- A cycle that begins with a packet inside makes a grant.
-  pub cycle_some : 1 ≤ depth → ((b : ℕ) → b < buffer_count net → All (Placed net b) (contents bs b))
+  pub cycle_some : 1 ≤ depth → ((b : ℕ) → b < buffer_count net → AllByRecursion (Placed net b) (contents bs b))
       → (b : ℕ) (q : Packet) (qs : List Packet) → b < buffer_count net → contents bs b ≡ q ∷ qs → 1 ≤ length cycle_grants
   cycle_some deep placed b q qs hb e = go cycle_grants refl
     where

@@ -1,6 +1,6 @@
 -- One grant keeps the buffers consistent with the history. Assumes nothing.
 use Rattle.std.proofs.Common.{◌≡◌, ℕ, ◌+◌, ◌<◌, Bool, cond, eqb, ◌⊎◌, List, [], ◌∷◌, ◌++◌, length, get_or, set, Some, Option, sym, refl, ap, ◌∙◌, subst, inl, inr, arith, length-set}
-use Rattle.std.specs.List.{AllByRecursion as All}
+use Rattle.std.specs.List.{AllByRecursion}
 use Rattle.std.proofs.ByRecursion.{All-push, All-weaker}
 use Rattle.std.proofs.lemmas.Bool.{eq-eqb, ne_eqb, cases_eq}
 use Rattle.queue.specs.declared.packet.Packet.{Packet}
@@ -21,7 +21,7 @@ use Rattle.switch.proofs.Tallies.{hops_other, hops_mine, hops_out, deliveries_ot
 use Rattle.switch.proofs.Forwarding.{Forwarded}
 use Rattle.switch.proofs.Deciding.{Fit, Onward}
 
-pub all_both : {X : Type 0} (P Q R : X → Type 0) → ((x : X) → P x → Q x → R x) → (xs : List X) → All P xs → All Q xs → All R xs
+pub all_both : {X : Type 0} (P Q R : X → Type 0) → ((x : X) → P x → Q x → R x) → (xs : List X) → AllByRecursion P xs → AllByRecursion Q xs → AllByRecursion R xs
 all_both P Q R f [] a b = tt
 all_both P Q R f (x ∷ xs) a b = (f x a.0 b.0, all_both P Q R f xs a.1 b.1)
 
@@ -36,8 +36,8 @@ module _ (net : Network) (law : Lawful net) (es : List Endpoints) (gs : List Gra
 
   mine : Good net es gs g.old fit.head
   mine =
-      let all : All (Good net es gs g.old) (fit.head ∷ fit.rest)
-      = subst (λ (xs : List Packet). All (Good net es gs g.old) xs) fit.contents_is (inv.good g.old fit.old_under) in
+      let all : AllByRecursion (Good net es gs g.old) (fit.head ∷ fit.rest)
+      = subst (λ (xs : List Packet). AllByRecursion (Good net es gs g.old) xs) fit.contents_is (inv.good g.old fit.old_under) in
       all.0
 
   popped : (f : ℕ → Packet → ℕ) → total_from f 0 (set bs g.old fit.rest) + f g.old fit.head ≡ total_from f 0 bs

@@ -1,6 +1,6 @@
 -- One packet taken in keeps the buffers consistent with the history. Assumes nothing.
 use Rattle.std.proofs.Common.{◌≡◌, ℕ, ◌+◌, ◌<◌, Bool, false, cond, not, ◌&&◌, eqb, ◌⊎◌, List, [], ◌∷◌, ◌++◌, length, get_or, Some, Option, sym, refl, ap, ◌∙◌, subst, subst₂, inl, inr, arith, length-set}
-use Rattle.std.specs.List.{AllByRecursion as All}
+use Rattle.std.specs.List.{AllByRecursion}
 use Rattle.std.proofs.ByRecursion.{All-weaker, All-push}
 use Rattle.std.proofs.lemmas.List.{get_or_append_left, get_or_push, length_push}
 use Rattle.std.proofs.lemmas.List.Sums.{sum_by_push}
@@ -37,10 +37,10 @@ module _ (net : Network) (es : List Endpoints) (gs : List Grant) (bs : Buffers) 
   new_ends k s = get_or_push es ends no_endpoints k (sym s)
 
   -- and of the new packet no grant was made.
-  not_new : All (λ g. eqb g.packet (length es) ≡ false) gs
+  not_new : AllByRecursion (λ g. eqb g.packet (length es) ≡ false) gs
   not_new = All-weaker (λ g. g.packet < length es) (λ g. eqb g.packet (length es) ≡ false) (λ g h. ne_eqb g.packet (length es) (λ e. omega arith)) gs inv.known
 
-  none_by : (p : Grant → Bool) → All (λ g. (eqb g.packet (length es) && p g) ≡ false) gs
+  none_by : (p : Grant → Bool) → AllByRecursion (λ g. (eqb g.packet (length es) && p g) ≡ false) gs
   none_by p = All-weaker (λ g. eqb g.packet (length es) ≡ false) (λ g. (eqb g.packet (length es) && p g) ≡ false) (λ g h. ap (λ (b : Bool). b && p g) h) gs not_new
 
   no_hops : hops_of net (length es) gs ≡ 0

@@ -2,7 +2,7 @@
 use Rattle.std.proofs.Common.{◌≡◌, ℕ, zero, suc, ◌+◌, ◌<◌, ◌≤◌, Bool, true, false, cond, not, eqb, ltb, ◌⊎◌, List, [], ◌∷◌, ◌++◌, length, replicate, Some, None, Option, sym, refl, ap, ◌∙◌, subst, subst₂, inl, inr, arith, length-append}
 use lib.ListN.{length-replicate, get_or-replicate}
 use lib.Seq.{append_snoc}
-use Rattle.std.specs.List.{AllByRecursion as All}
+use Rattle.std.specs.List.{AllByRecursion}
 use Rattle.std.proofs.ByRecursion.{All-weaker}
 use Rattle.std.proofs.lemmas.List.{append-nil, append_assoc, get_or_past}
 use Rattle.std.proofs.lemmas.List.Sums.{sum_by_push, sum_by-append}
@@ -31,7 +31,7 @@ use Rattle.switch.proofs.Histories.{injections_append, grants_append, hops_and_d
 
 -- What each cycle keeps: its number, and that it makes progress.
 abbrev Numbered : List Event → List Grant → Type 0
-Numbered before gs = All (λ g. g.cycle ≡ cycles_in before) gs
+Numbered before gs = AllByRecursion (λ g. g.cycle ≡ cycles_in before) gs
 
 abbrev Progressed : Network → List Event → List Grant → Type 0
 Progressed net before gs = 0 < inside_in net before → 0 < hop_count net gs + delivery_count net gs
@@ -50,7 +50,7 @@ work_of_none net bs e = go (cases_lt 0 (total_from (packet_work net) 0 bs))
     go (inl h) =
         let r = some_packet (packet_work net) bs 0 h in
         let z = total_zero (λ _ _. 1) bs 0 r.0 r.0 (omega arith) r.3 e in
-        let z' : All (λ q. ◌≡◌ {A = ℕ} 1 0) (r.1 ∷ r.2) = subst (λ (xs : List Packet). All (λ q. ◌≡◌ {A = ℕ} 1 0) xs) r.4 z in
+        let z' : AllByRecursion (λ q. ◌≡◌ {A = ℕ} 1 0) (r.1 ∷ r.2) = subst (λ (xs : List Packet). AllByRecursion (λ q. ◌≡◌ {A = ℕ} 1 0) xs) r.4 z in
         absurd (let k = z'.0 in let f : ⊥ = omega arith in f)
 
 open_not_closed : (f : FeedState) → is_open f ≡ true → f ≡ Closed → ⊥
@@ -72,7 +72,7 @@ module _ {Arb : Type 0} (net : Network) (depth : ℕ) where
         consistent =
             record {
               sized = sized;
-              good = λ b h. subst (λ (xs : List Packet). All (Good net [] [] b) xs) (sym (empty b)) tt;
+              good = λ b h. subst (λ (xs : List Packet). AllByRecursion (Good net [] [] b) xs) (sym (empty b)) tt;
               ends_in = tt;
               known = tt;
               counted = λ k h. absurd (let z : ⊥ = omega arith in z);
@@ -103,7 +103,7 @@ module _ {Arb : Type 0} (net : Network) (depth : ℕ) where
       empty b = empty_at b (cases_lt b (buffer_count net))
 
       none : (f : ℕ → Packet → ℕ) → total_from f 0 (replicate (buffer_count net) []) ≡ 0
-      none f = total_none f (replicate (buffer_count net) []) 0 (λ b h. subst (λ (xs : List Packet). All (λ q. f (0 + b) q ≡ 0) xs) (sym (empty b)) tt)
+      none f = total_none f (replicate (buffer_count net) []) 0 (λ b h. subst (λ (xs : List Packet). AllByRecursion (λ q. f (0 + b) q ≡ 0) xs) (sym (empty b)) tt)
 
   -- An event that is neither a packet taken in nor a cycle.
   quiet : (h : List Event) (e : Event) (s : SwitchState Arb) (f : FeedState) → injections (e ∷ []) ≡ [] → grants_in (e ∷ []) ≡ [] → is_cycle e ≡ false
@@ -189,7 +189,7 @@ module _ {Arb : Type 0} (net : Network) (law : Lawful net) (rule : Rule Arb) (ex
   cycle_step : (h : List Event) (s : SwitchState Arb) → Invariant net depth h s
       → Consistent net (injections h) (grants_in h ++ (decisions net rule depth s).grants) (moves (buffer_count net) s.buffers (decisions net rule depth s).grants)
       × ((b : ℕ) → length (contents (moves (buffer_count net) s.buffers (decisions net rule depth s).grants) b) ≤ depth)
-      × All (λ g. g.cycle ≡ s.cycles) (decisions net rule depth s).grants
+      × AllByRecursion (λ g. g.cycle ≡ s.cycles) (decisions net rule depth s).grants
   unfolding decisions
   cycle_step h s o =
       let start = snap net depth s.cycles s.buffers in
@@ -277,7 +277,7 @@ module _ {Arb : Type 0} (net : Network) (law : Lawful net) (rule : Rule Arb) (ex
         numbered = each_push Numbered h (cycled gs) o.numbered
             (λ gs' e.
             let same : gs ≡ gs' = cc in
-            subst₂ (λ (k : ℕ) (x : List Grant). All (λ (y : Grant). y.cycle ≡ k) x) o.cycles_is same i.2);
+            subst₂ (λ (k : ℕ) (x : List Grant). AllByRecursion (λ (y : Grant). y.cycle ≡ k) x) o.cycles_is same i.2);
         never_locks = each_push (Progressed net) h (cycled gs) o.never_locks
             (λ gs' e p.
             let same : gs ≡ gs' = cc in

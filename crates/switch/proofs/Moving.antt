@@ -1,7 +1,7 @@
 -- All grants of a cycle, carried out one after another. Assumes nothing.
 use Rattle.std.proofs.Common.{◌≡◌, ℕ, suc, ◌+◌, ◌<◌, ◌≤◌, Bool, true, false, ◌≢◌, ◌⊎◌, List, [], ◌∷◌, ◌++◌, length, get_or, set, sym, ap, ◌∙◌, subst, inl, inr, arith, length-append, length-set}
 use lib.Seq.{append_snoc}
-use Rattle.std.specs.List.{AllByRecursion as All}
+use Rattle.std.specs.List.{AllByRecursion}
 use Rattle.std.proofs.lemmas.List.{get_or-set_same, get_or-set_other, set_past, append-nil, append_assoc}
 use Rattle.std.proofs.lemmas.Bool.{cases_eq, cases_lt}
 use Rattle.queue.specs.declared.packet.Packet.{Packet}
@@ -78,7 +78,7 @@ pub record Moved (start : Snapshot) (granted : List Bool) (joined : List ℕ) (b
   pub sized : length bs ≡ buffer_count start.network
   pub flags : length granted ≡ buffer_count start.network
   pub front : (b : ℕ) → get_or granted b false ≡ false → (more : List Packet) × (contents bs b ≡ contents start.buffers b ++ more)
-  pub short : (b : ℕ) → All (λ f. b ≢ f) joined → length (contents bs b) ≤ length (contents start.buffers b)
+  pub short : (b : ℕ) → AllByRecursion (λ f. b ≢ f) joined → length (contents bs b) ≤ length (contents start.buffers b)
   pub within : (b : ℕ) → length (contents bs b) ≤ start.depth
 
 module _ (start : Snapshot) (granted : List Bool) (joined : List ℕ) (bs : Buffers) (moved : Moved start granted joined bs) (g : Grant) (free : get_or granted g.old false ≡ false) where
@@ -119,7 +119,7 @@ module _ (start : Snapshot) (granted : List Bool) (joined : List ℕ) (bs : Buff
                 ∙ append_assoc (contents start.buffers b) m.0 p.0,
           )
 
-      shorts : (b : ℕ) → All (λ x. b ≢ x) (g.new ∷ joined) → length (contents (enqueue (set bs g.old f.rest) g.new (hopped f.head)) b) ≤ length (contents start.buffers b)
+      shorts : (b : ℕ) → AllByRecursion (λ x. b ≢ x) (g.new ∷ joined) → length (contents (enqueue (set bs g.old f.rest) g.new (hopped f.head)) b) ≤ length (contents start.buffers b)
       shorts b h =
           let a = moved.short b h.1 in
           let c = leave_short bs g.old b f.head f.rest f.contents_is in
@@ -162,6 +162,6 @@ module _ (start : Snapshot) (law : Lawful start.network) (es : List Endpoints) w
       (subst (λ (x : List Grant). Consistent start.network es x (moves (buffer_count start.network) (move (buffer_count start.network) bs g) gs)) (append_snoc gs₀ g gs) m.0, m.1)
 
 -- Each grant carries the number of the cycle.
-pub ready_numbered : (start : Snapshot) (gs : List Grant) (granted : List Bool) (joined : List ℕ) → Ready start granted joined gs → All (λ g. g.cycle ≡ start.cycle) gs
+pub ready_numbered : (start : Snapshot) (gs : List Grant) (granted : List Bool) (joined : List ℕ) → Ready start granted joined gs → AllByRecursion (λ g. g.cycle ≡ start.cycle) gs
 ready_numbered start [] granted joined ready = tt
 ready_numbered start (g ∷ gs) granted joined ready = (ready.0.1, ready_numbered start gs (set granted g.old true) (g.new ∷ joined) ready.1)

@@ -1,6 +1,6 @@
 -- Freedom from deadlock: where a packet is inside, some first packet may use some port. Assumes nothing.
 use Rattle.std.proofs.Common.{◌≡◌, ℕ, zero, suc, ◌+◌, ◌<◌, ◌≤◌, Bool, true, false, cond, ◌&&◌, eqb, ◌≢◌, List, [], ◌∷◌, length, get_or, Some, None, Option, sym, refl, ◌∙◌, subst, add-one, arith}
-use Rattle.std.specs.List.{AllByRecursion as All}
+use Rattle.std.specs.List.{AllByRecursion}
 use Rattle.std.proofs.lemmas.Bool.{ltb-false, eq-eqb, ne_eqb, cond-true}
 use Rattle.queue.specs.declared.packet.Packet.{Packet}
 use Rattle.network.specs.declared.hop.Hop.{Hop}
@@ -78,7 +78,7 @@ named net law n d hn hd ne = go (net.escape n d) refl (law.escapes n d hn hd ne)
     go (Some a) e l = (a, e)
 
 module _ (net : Network) (law : Lawful net) (depth now : ℕ) (deep : 1 ≤ depth) (bs : Buffers) (granted : List Bool) (free : (b : ℕ) → get_or granted b false ≡ false)
-    (placed : (b : ℕ) → b < buffer_count net → All (Placed net b) (contents bs b)) (idle : Idle (snap net depth now bs) granted) where
+    (placed : (b : ℕ) → b < buffer_count net → AllByRecursion (Placed net b) (contents bs b)) (idle : Idle (snap net depth now bs) granted) where
   -- The first packet of a buffer that stands at n is not at its destination, and its escape channel holds a packet.
   onward : (b n : ℕ) (q : Packet) (qs : List Packet) → b < buffer_count net → contents bs b ≡ q ∷ qs → location net b ≡ Some n → n < net.nodes → q.destination < net.nodes
       → (a : Hop) × (net.escape n q.destination ≡ Some a) × (1 ≤ length (contents bs (channel_buffer net n a.port (a.class + 1))))
@@ -106,7 +106,7 @@ module _ (net : Network) (law : Lawful net) (depth now : ℕ) (deep : 1 ≤ dept
       let bt : b < buffer_count net = omega (arith, channels_le net) in
       let z = has_head (contents bs b) full in
       let q = z.0 in
-      let all : All (Placed net b) (q ∷ z.1) = subst (λ (xs : List Packet). All (Placed net b) xs) z.2 (placed b bt) in
+      let all : AllByRecursion (Placed net b) (q ∷ z.1) = subst (λ (xs : List Packet). AllByRecursion (Placed net b) xs) z.2 (placed b bt) in
       let pl : Placed net b q = all.0 in
       let ch : channel_of net b ≡ suc a.class = buffer_channel net n a.port (a.class + 1) cu ∙ add-one a.class in
       let es = pl.by_escape a.class bc ch in
@@ -130,7 +130,7 @@ module _ (net : Network) (law : Lawful net) (depth now : ℕ) (deep : 1 ≤ dept
   -- If no buffer requests anything, every buffer is empty.
   pub idle_empty : (b : ℕ) (q : Packet) (qs : List Packet) → b < buffer_count net → contents bs b ≡ q ∷ qs → ⊥
   idle_empty b q qs hb e =
-      let all : All (Placed net b) (q ∷ qs) = subst (λ (xs : List Packet). All (Placed net b) xs) e (placed b hb) in
+      let all : AllByRecursion (Placed net b) (q ∷ qs) = subst (λ (xs : List Packet). AllByRecursion (Placed net b) xs) e (placed b hb) in
       let pl : Placed net b q = all.0 in
       let o = onward b pl.at q qs hb e pl.stands pl.at_node pl.bound in
       climb net.ceiling pl.at q.destination o.0 pl.at_node pl.bound o.1 o.2 (omega arith)

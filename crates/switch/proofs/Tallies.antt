@@ -1,6 +1,6 @@
 -- What one more grant, and one more packet, add to what a history tells. Assumes nothing.
 use Rattle.std.proofs.Common.{◌≡◌, ℕ, zero, suc, ◌+◌, ◌<◌, ◌≤◌, Bool, true, false, cond, not, ◌&&◌, eqb, List, [], ◌∷◌, ◌++◌, length, get_or, Some, fold, count_by, Option, refl, ap, ◌∙◌, le_of_suc-le-suc, not-suc-le-zero, add-zero, arith}
-use Rattle.std.specs.List.{AllByRecursion as All}
+use Rattle.std.specs.List.{AllByRecursion}
 use Rattle.std.proofs.lemmas.List.Elements.{filter-append}
 use Rattle.std.proofs.lemmas.List.{append-nil}
 use Rattle.std.proofs.lemmas.List.Sums.{sum_by-cons, sum_by_push, fold_push}
@@ -81,7 +81,7 @@ module _ (net : Network) (gs : List Grant) (g : Grant) where
       ∙ ap (λ (b : Bool). cond b (location net g.new) (position net k t gs)) z
 
 -- A packet that no grant is of location at its source.
-pub position_none : (net : Network) (k : ℕ) (t : Endpoints) (o : Option ℕ) (gs : List Grant) → All (λ g. (eqb g.packet k && not (delivers net g)) ≡ false) gs
+pub position_none : (net : Network) (k : ℕ) (t : Endpoints) (o : Option ℕ) (gs : List Grant) → AllByRecursion (λ g. (eqb g.packet k && not (delivers net g)) ≡ false) gs
     → fold (λ (o : Option ℕ) (g : Grant). cond (eqb g.packet k && not (delivers net g)) (location net g.new) o) o gs ≡ o
 position_none net k t o [] h = refl
 position_none net k t o (g ∷ gs) h =
@@ -120,7 +120,7 @@ module _ (gs : List Grant) (g : Grant) (k : ℕ) where
   grants_of_other d = kept_push false (ne_eqb g.packet k d) ∙ append-nil (grants_of k gs)
 
 -- none where no grant is of it,
-pub grants_of_none : (k : ℕ) (gs : List Grant) → All (λ g. eqb g.packet k ≡ false) gs → grants_of k gs ≡ []
+pub grants_of_none : (k : ℕ) (gs : List Grant) → AllByRecursion (λ g. eqb g.packet k ≡ false) gs → grants_of k gs ≡ []
 grants_of_none k [] h = refl
 grants_of_none k (g ∷ gs) h = ap (λ (t : Bool). cond t (g ∷ grants_of k gs) (grants_of k gs)) h.0 ∙ grants_of_none k gs h.1
 
@@ -138,7 +138,7 @@ hops_journey net stay = inside
 hops_journey net (hop f d r) = journey_hop f d (hops_journey net r)
 
 -- Counts of what is not there.
-pub count_none : (p : Grant → Bool) (gs : List Grant) → All (λ g. p g ≡ false) gs → count_by p gs ≡ 0
+pub count_none : (p : Grant → Bool) (gs : List Grant) → AllByRecursion (λ g. p g ≡ false) gs → count_by p gs ≡ 0
 count_none p [] h = refl
 count_none p (g ∷ gs) h =
     sum_by-cons (λ x. cond (p x) 1 0) g gs

@@ -1,6 +1,6 @@
 -- Sums over all packets, and what holds of all, when a packet leaves or joins a buffer. Assumes nothing.
 use Rattle.std.proofs.Common.{◌≡◌, ℕ, zero, suc, ◌+◌, ◌<◌, ◌≤◌, true, false, cond, eqb, ◌⊎◌, List, [], ◌∷◌, ◌++◌, length, set, sum_by, sym, refl, ap, ◌∙◌, subst, inl, inr, le_of_suc-le-suc, not-suc-le-zero, arith, length-set}
-use Rattle.std.specs.List.{AllByRecursion as All}
+use Rattle.std.specs.List.{AllByRecursion}
 use Rattle.std.proofs.ByRecursion.{All-push}
 use Rattle.std.proofs.lemmas.List.{get_or-set_same, get_or-set_other, set_past}
 use Rattle.std.proofs.lemmas.List.Sums.{sum_by-cons, sum_by_push}
@@ -41,29 +41,29 @@ total_push f bs b q h =
     omega arith
 
 -- Where a sum is 0, each part is.
-sum_zero : (f : Packet → ℕ) (xs : List Packet) → sum_by f xs ≡ 0 → All (λ q. f q ≡ 0) xs
+sum_zero : (f : Packet → ℕ) (xs : List Packet) → sum_by f xs ≡ 0 → AllByRecursion (λ q. f q ≡ 0) xs
 sum_zero f [] e = tt
 sum_zero f (x ∷ xs) e = let s = sum_by-cons f x xs in (omega arith, sum_zero f xs (omega arith))
 
-pub total_zero : (f : ℕ → Packet → ℕ) (bs : Buffers) (i b j : ℕ) → j ≡ i + b → b < length bs → total_from f i bs ≡ 0 → All (λ q. f j q ≡ 0) (contents bs b)
+pub total_zero : (f : ℕ → Packet → ℕ) (bs : Buffers) (i b j : ℕ) → j ≡ i + b → b < length bs → total_from f i bs ≡ 0 → AllByRecursion (λ q. f j q ≡ 0) (contents bs b)
 total_zero f [] i b j e h z = absurd (not-suc-le-zero h)
 total_zero f (x ∷ bs) i zero j e h z =
     let s : i ≡ j = omega arith in
-    subst (λ (y : ℕ). All (λ q. f y q ≡ 0) x) s (sum_zero (f i) x (omega arith))
+    subst (λ (y : ℕ). AllByRecursion (λ q. f y q ≡ 0) x) s (sum_zero (f i) x (omega arith))
 total_zero f (x ∷ bs) i (suc b) j e h z = total_zero f bs (suc i) b j (omega arith) (le_of_suc-le-suc h) (omega arith)
 
 -- Where each part is 0, the sum is.
-sum_none : (f : Packet → ℕ) (xs : List Packet) → All (λ q. f q ≡ 0) xs → sum_by f xs ≡ 0
+sum_none : (f : Packet → ℕ) (xs : List Packet) → AllByRecursion (λ q. f q ≡ 0) xs → sum_by f xs ≡ 0
 sum_none f [] h = refl
 sum_none f (x ∷ xs) h = let s = sum_by-cons f x xs in let a = h.0 in let b = sum_none f xs h.1 in omega arith
 
-pub total_none : (f : ℕ → Packet → ℕ) (bs : Buffers) (i : ℕ) → ((b : ℕ) → b < length bs → All (λ q. f (i + b) q ≡ 0) (contents bs b)) → total_from f i bs ≡ 0
+pub total_none : (f : ℕ → Packet → ℕ) (bs : Buffers) (i : ℕ) → ((b : ℕ) → b < length bs → AllByRecursion (λ q. f (i + b) q ≡ 0) (contents bs b)) → total_from f i bs ≡ 0
 total_none f [] i h = refl
 total_none f (x ∷ bs) i h =
-    let a : All (λ q. f i q ≡ 0) x = let e : i + 0 ≡ i = omega arith in subst (λ (j : ℕ). All (λ q. f j q ≡ 0) x) e (h 0 (omega arith)) in
+    let a : AllByRecursion (λ q. f i q ≡ 0) x = let e : i + 0 ≡ i = omega arith in subst (λ (j : ℕ). AllByRecursion (λ q. f j q ≡ 0) x) e (h 0 (omega arith)) in
     let b = sum_none (f i) x a in
     let c = total_none f bs (suc i)
-    (λ k l. let e : i + suc k ≡ suc i + k = omega arith in subst (λ (j : ℕ). All (λ q. f j q ≡ 0) (contents bs k)) e (h (suc k) (omega arith))) in
+    (λ k l. let e : i + suc k ≡ suc i + k = omega arith in subst (λ (j : ℕ). AllByRecursion (λ q. f j q ≡ 0) (contents bs k)) e (h (suc k) (omega arith))) in
     omega arith
 
 -- A sum of larger parts is larger.
@@ -87,23 +87,23 @@ pub each_pop : (P : ℕ → Packet → Type 0) (n : ℕ) (bs : Buffers) (b : ℕ
     → InEach P n bs → InEach P n (set bs b qs)
 each_pop P n bs b q qs h e all c k = go (cases_eq c b)
   where
-    go : (c ≡ b) ⊎ (c ≡ b → ⊥) → All (P c) (contents (set bs b qs) c)
+    go : (c ≡ b) ⊎ (c ≡ b → ⊥) → AllByRecursion (P c) (contents (set bs b qs) c)
     go (inl s) =
-        let a : All (P c) (q ∷ qs) = subst (λ (xs : List Packet). All (P c) xs) (ap (λ (x : ℕ). contents bs x) s ∙ e) (all c k) in
+        let a : AllByRecursion (P c) (q ∷ qs) = subst (λ (xs : List Packet). AllByRecursion (P c) xs) (ap (λ (x : ℕ). contents bs x) s ∙ e) (all c k) in
         let f : contents (set bs b qs) c ≡ qs = ap (λ (x : ℕ). contents (set bs b qs) x) s ∙ get_or-set_same bs b qs [] h in
-        subst (λ (xs : List Packet). All (P c) xs) (sym f) a.1
-    go (inr d) = subst (λ (xs : List Packet). All (P c) xs) (sym (get_or-set_other bs b c qs [] d)) (all c k)
+        subst (λ (xs : List Packet). AllByRecursion (P c) xs) (sym f) a.1
+    go (inr d) = subst (λ (xs : List Packet). AllByRecursion (P c) xs) (sym (get_or-set_other bs b c qs [] d)) (all c k)
 
 pub each_push : (P : ℕ → Packet → Type 0) (n : ℕ) (bs : Buffers) (b : ℕ) (q : Packet) → b < length bs → P b q → InEach P n bs → InEach P n (enqueue bs b q)
 each_push P n bs b q h p all c k = go (cases_eq c b)
   where
-    go : (c ≡ b) ⊎ (c ≡ b → ⊥) → All (P c) (contents (enqueue bs b q) c)
+    go : (c ≡ b) ⊎ (c ≡ b → ⊥) → AllByRecursion (P c) (contents (enqueue bs b q) c)
     go (inl s) =
-        let a : All (P c) (contents bs c ++ (q ∷ [])) = All-push (P c) (contents bs c) q (all c k) (subst (λ (x : ℕ). P x q) (sym s) p) in
+        let a : AllByRecursion (P c) (contents bs c ++ (q ∷ [])) = All-push (P c) (contents bs c) q (all c k) (subst (λ (x : ℕ). P x q) (sym s) p) in
         let f : contents (enqueue bs b q) c ≡ contents bs c ++ (q ∷ [])
         = ap (λ (x : ℕ). contents (enqueue bs b q) x) s ∙ get_or-set_same bs b (contents bs b ++ (q ∷ [])) [] h ∙ ap (λ (x : ℕ). contents bs x ++ (q ∷ [])) (sym s) in
-        subst (λ (xs : List Packet). All (P c) xs) (sym f) a
-    go (inr d) = subst (λ (xs : List Packet). All (P c) xs) (sym (get_or-set_other bs b c _ [] d)) (all c k)
+        subst (λ (xs : List Packet). AllByRecursion (P c) xs) (sym f) a
+    go (inr d) = subst (λ (xs : List Packet). AllByRecursion (P c) xs) (sym (get_or-set_other bs b c _ [] d)) (all c k)
 
 module _ (net : Network) (bs : Buffers) (g : Grant) where
   -- One grant carried out: a delivery is a packet that leaves,

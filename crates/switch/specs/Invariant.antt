@@ -1,6 +1,6 @@
 -- The invariant of the switch: what holds of its state after a history. Assumes nothing.
 use Rattle.std.specs.Prelude.{◌≡◌, ℕ, suc, ◌+◌, ◌<◌, ◌≤◌, cond, ◌⊎◌, List, [], ◌∷◌, ◌++◌, length, get_or, Some, sum_by, ◌==◌, slice_index_or}
-use Rattle.std.specs.List.{AllByRecursion as All}
+use Rattle.std.specs.List.{AllByRecursion}
 use Rattle.queue.specs.declared.packet.Packet.{Packet}
 use Rattle.network.specs.declared.hop.Hop.{Hop}
 use Rattle.network.specs.Network.{Network}
@@ -29,7 +29,7 @@ pub record Placed (net : Network) (b : ℕ) (q : Packet) : Type 0 where
 
 -- P holds of every packet in the first n buffers.
 abbrev pub InEach : (ℕ → Packet → Type 0) → ℕ → Buffers → Type 0
-InEach P n bs = (b : ℕ) → b < n → All (P b) (contents bs b)
+InEach P n bs = (b : ℕ) → b < n → AllByRecursion (P b) (contents bs b)
 
 -- 1 for a packet with the number k, else 0.
 abbrev pub is_number : ℕ → ℕ → Packet → ℕ
@@ -63,8 +63,8 @@ Travelled net k e gs =
 pub record Consistent (net : Network) (es : List Endpoints) (gs : List Grant) (bs : Buffers) : Type 0 where
   pub sized : length bs ≡ buffer_count net
   pub good : InEach (Good net es gs) (buffer_count net) bs
-  pub ends_in : All (λ e. (e.source < net.nodes) × (e.destination < net.nodes)) es
-  pub known : All (λ g. g.packet < length es) gs
+  pub ends_in : AllByRecursion (λ e. (e.source < net.nodes) × (e.destination < net.nodes)) es
+  pub known : AllByRecursion (λ g. g.packet < length es) gs
   -- each packet taken in is in one buffer, once, or was delivered once
   pub counted : (k : ℕ) → k < length es → total_from (is_number k) 0 bs + deliveries_of net k gs ≡ 1
   pub travelled : (k : ℕ) → k < length es → Travelled net k (slice_index_or es k no_endpoints) gs
@@ -89,7 +89,7 @@ pub record Invariant {Arb : Type 0} (net : Network) (depth : ℕ) (h : List Even
   pub delivered_is : s.delivered ≡ delivery_count net (grants_in h)
   pub hops_is : s.hops ≡ hop_count net (grants_in h)
   pub cycles_is : s.cycles ≡ cycles_in h
-  pub numbered : EachCycle (λ before gs. All (λ g. g.cycle ≡ cycles_in before) gs) h
+  pub numbered : EachCycle (λ before gs. AllByRecursion (λ g. g.cycle ≡ cycles_in before) gs) h
   pub never_locks : NeverLocks net h
   pub closing : Closing net h s
   pub capacity : (b : ℕ) → length (contents s.buffers b) ≤ depth

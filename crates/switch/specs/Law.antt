@@ -1,6 +1,6 @@
 -- The law of runs, told from the history of a run. Assumes nothing.
 use Rattle.std.specs.Prelude.{◌≡◌, ℕ, ◌+◌, ◌<◌, ◌≤◌, ◌⊎◌, List, [], ◌∷◌, ◌++◌, length, Some, None, sum_by}
-use Rattle.std.specs.List.{AllByRecursion as All}
+use Rattle.std.specs.List.{AllByRecursion}
 use Rattle.network.specs.Network.{Network}
 use Rattle.network.specs.Laws.{Lawful}
 use Rattle.network.specs.Walks.{Walk}
@@ -36,7 +36,7 @@ pub data Journey (net : Network) (d : ℕ) : ℕ → List Grant → Type 0 where
 -- Every packet taken in is delivered at most once, at its destination, by a shortest way.
 pub record Once (net : Network) (h : List Event) : Type 0 where
   -- no other packet is granted anything
-  pub known : All (λ g. g.packet < length (injections h)) (grants_in h)
+  pub known : AllByRecursion (λ g. g.packet < length (injections h)) (grants_in h)
   -- at most one delivery
   pub at_most_once : (k : ℕ) → k < length (injections h) → deliveries_of net k (grants_in h) ≤ 1
   -- its hops form a walk over the links from its source, and a delivery, if there is one, is at its destination and comes last
@@ -56,7 +56,7 @@ pub record Ledger {Arb : Type 0} (net : Network) (h : List Event) (s : SwitchSta
   pub report : report_of s ≡ report_in net h
   pub work : work_left net s.buffers ≡ work_in net h
   -- each grant carries the number of its cycle
-  pub numbered : EachCycle (λ before gs. All (λ g. g.cycle ≡ cycles_in before) gs) h
+  pub numbered : EachCycle (λ before gs. AllByRecursion (λ g. g.cycle ≡ cycles_in before) gs) h
 
 -- A performed call that answers nothing, by the events that it adds: an open adds none, and a close itself.
 abbrev pub Done : List Event → Call → Type 0
