@@ -61,8 +61,8 @@ fn visit<R: Routing, A: Arbiter>(
     requires targets { sizes.buffers ≤ length targets.old }
     requires node { n < sizes.nodes }
     requires port { p ≤ sizes.ports }
-    ensures answer { result ≡ chosen (R.meaning routing.now) A.Arbiter.rule (visit_of n p) arbiter.old (requests_of (start_of (R.meaning routing.now) sizes cycle queues.now) granted.now (visit_of n p)) }
-    ensures after { arbiter.new ≡ next_arbiter (R.meaning routing.now) A.Arbiter.rule (visit_of n p) arbiter.old (requests_of (start_of (R.meaning routing.now) sizes cycle queues.now) granted.now (visit_of n p)) }
+    ensures answer { result ≡ chosen (R.meaning routing.now) A.rule (visit_of n p) arbiter.old (requests_of (start_of (R.meaning routing.now) sizes cycle queues.now) granted.now (visit_of n p)) }
+    ensures after { arbiter.new ≡ next_arbiter (R.meaning routing.now) A.rule (visit_of n p) arbiter.old (requests_of (start_of (R.meaning routing.now) sizes cycle queues.now) granted.now (visit_of n p)) }
     ensures old { OldUnder sizes.buffers result }
 {
     let len = requests(
@@ -77,7 +77,7 @@ fn visit<R: Routing, A: Arbiter>(
 
 // The place of the entry to which the arbiter grants the link.
 fn choose<A: Arbiter>(arbiter: &mut A, link: usize, entries: &[Entry]) -> Option<usize>
-    ensures { Granted A.Arbiter.rule arbiter.old arbiter.new link entries.now result }
+    ensures { Granted A.rule arbiter.old arbiter.new link entries.now result }
 {
     arbiter.grant(link, entries)
 }
@@ -113,7 +113,7 @@ pub fn decide<R: Routing, A: Arbiter>(
     requires sound { Sound queues.now sizes.depth }
     requires stands { Stands (R.meaning routing.now) standing.now }
     requires room { sizes.nodes * (sizes.ports + 1) ≤ length trace.old }
-    ensures { Decided (start_of (R.meaning routing.now) sizes cycle queues.now) A.Arbiter.rule arbiter.old arbiter.new trace.old trace.new result }
+    ensures { Decided (start_of (R.meaning routing.now) sizes cycle queues.now) A.rule arbiter.old arbiter.new trace.old trace.new result }
 {
     decide_in(
         routing,
@@ -149,7 +149,7 @@ fn decide_in<R: Routing, A: Arbiter>(
     requires entries { sizes.buffers ≤ length entries.old }
     requires targets { sizes.buffers ≤ length targets.old }
     requires room { sizes.nodes * (sizes.ports + 1) ≤ length trace.old }
-    ensures { Decided (start_of (R.meaning routing.now) sizes cycle queues.now) A.Arbiter.rule arbiter.old arbiter.new trace.old trace.new result }
+    ensures { Decided (start_of (R.meaning routing.now) sizes cycle queues.now) A.rule arbiter.old arbiter.new trace.old trace.new result }
 {
     let granted = &mut granted[..sizes.buffers];
     visit_all(
@@ -177,7 +177,7 @@ fn visit_all<R: Routing, A: Arbiter>(
     requires entries { sizes.buffers ≤ length entries.old }
     requires targets { sizes.buffers ≤ length targets.old }
     requires room { sizes.nodes * (sizes.ports + 1) ≤ length trace.old }
-    ensures { Decided (start_of (R.meaning routing.now) sizes cycle queues.now) A.Arbiter.rule arbiter.old arbiter.new trace.old trace.new result }
+    ensures { Decided (start_of (R.meaning routing.now) sizes cycle queues.now) A.rule arbiter.old arbiter.new trace.old trace.new result }
 {
     granted.fill(false);
     let mut count = 0;

@@ -23,7 +23,7 @@ pub fn turn<R: Routing, A: Arbiter>(
     requires room { body.old.sizes.nodes * (body.old.sizes.ports + 1) ≤ length trace.old }
     requires few { body.old.cycles < 1000000 }
     requires taken { body.old.taken ≤ 60000 }
-    ensures { Turned (R.meaning routing.now) A.Arbiter.rule arbiter.old arbiter.new body.old body.new trace.old trace.new result }
+    ensures { Turned (R.meaning routing.now) A.rule arbiter.old arbiter.new body.old body.new trace.old trace.new result }
 {
     if body.taken == body.delivered {
         body.cycles += 1;

@@ -4,6 +4,7 @@
 
 use std::env;
 use std::io::{BufWriter, Write};
+use std::process::ExitCode;
 use traceroute::{parse, traced};
 
 // Reads the command, traces its route and prints it.
@@ -23,10 +24,12 @@ fn run(rt: &HostRuntime) -> anyhow::Result<()> {
 }
 
 // A command that cannot be followed is told why in a sentence, and the program ends with status 1.
-fn main(rt: HostRuntime) -> anyhow::Result<()> {
-    let outcome = run(&rt);
-    if let Err(error) = &outcome {
-        let _ = eprintln!(rt; "route: {error}");
+fn main(rt: HostRuntime) -> ExitCode {
+    match run(&rt) {
+        Ok(()) => ExitCode::SUCCESS,
+        Err(error) => {
+            let _ = eprintln!(rt; "route: {error}");
+            ExitCode::FAILURE
+        }
     }
-    outcome
 }

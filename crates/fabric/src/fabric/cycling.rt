@@ -24,8 +24,8 @@ const NO_GRANT: Grant = Grant {
 impl<R: Routing, A: Arbiter> Fabric<R, A> {
     // Performs one cycle, and writes its grants at the front of the trace, in order. Answers how many there are.
     pub fn cycle(&mut self, trace: &mut [Grant]) -> Result<usize, Refusal>
-        ensures answered { Answered A.Arbiter.rule (cycle (length trace.old)) self.old self.new (numbered result) }
-        ensures traced { Trace A.Arbiter.rule self.old trace.old trace.new result }
+        ensures answered { Answered A.rule (cycle (length trace.old)) self.old self.new (numbered result) }
+        ensures traced { Trace A.rule self.old trace.old trace.new result }
     {
         if let Some(refusal) = self.cycle_refusal(trace.len()) {
             return Err(refusal);
@@ -35,7 +35,7 @@ impl<R: Routing, A: Arbiter> Fabric<R, A> {
 
     // Performs cycles until nothing is inside. Answers how many.
     pub fn drain(&mut self) -> Result<usize, Refusal>
-        ensures { Answered A.Arbiter.rule drain self.old self.new (numbered result) }
+        ensures { Answered A.rule drain self.old self.new (numbered result) }
     {
         if let Some(refusal) = self.drain_refusal() {
             return Err(refusal);
@@ -45,7 +45,7 @@ impl<R: Routing, A: Arbiter> Fabric<R, A> {
 
     // Has the trace room for the grants of a cycle, and were fewer than 1,000,000 cycles performed?
     fn cycle_refusal(&self, room: usize) -> Option<Refusal>
-        ensures { Asked A.Arbiter.rule (cycle room) self.now result }
+        ensures { Asked A.rule (cycle room) self.now result }
     {
         if room < self.body.sizes.nodes * (self.body.sizes.ports + 1) {
             return Some(Refusal::ShortTrace);
@@ -59,8 +59,8 @@ impl<R: Routing, A: Arbiter> Fabric<R, A> {
     // Performs a cycle that no question refuses.
     fn perform_cycle(&mut self, trace: &mut [Grant]) -> usize
         requires may { May (cycle (length trace.old)) self.old }
-        ensures answered { Answered A.Arbiter.rule (cycle (length trace.old)) self.old self.new (number result) }
-        ensures traced { Traced (decisions (network_in self.old) A.Arbiter.rule (depth_in self.old) (state_of self.old)).grants trace.old trace.new result }
+        ensures answered { Answered A.rule (cycle (length trace.old)) self.old self.new (number result) }
+        ensures traced { Traced (decisions (network_in self.old) A.rule (depth_in self.old) (state_of self.old)).grants trace.old trace.new result }
     {
         turn(
             &self.table,
@@ -74,7 +74,7 @@ impl<R: Routing, A: Arbiter> Fabric<R, A> {
 
     // Is the feed closed, and do the cycles performed and the work left make at most 1,000,000?
     fn drain_refusal(&self) -> Option<Refusal>
-        ensures { Asked A.Arbiter.rule drain self.now result }
+        ensures { Asked A.rule drain self.now result }
     {
         match self.body.feed {
             FeedState::Closed => {}
@@ -89,7 +89,7 @@ impl<R: Routing, A: Arbiter> Fabric<R, A> {
     // Performs a drain that no question refuses.
     fn perform_drain(&mut self) -> usize
         requires may { May drain self.old }
-        ensures { Answered A.Arbiter.rule drain self.old self.new (number result) }
+        ensures { Answered A.rule drain self.old self.new (number result) }
     {
         let mut trace = [NO_GRANT; 448];
         let mut count = 0;

@@ -14,7 +14,7 @@ use switch::FeedState;
 impl<R: Routing, A: Arbiter> Fabric<R, A> {
     // Opens the feed, once.
     pub fn open(&mut self) -> Result<Feed, Refusal>
-        ensures { Answered A.Arbiter.rule open_feed self.old self.new (opened result) }
+        ensures { Answered A.rule open_feed self.old self.new (opened result) }
     {
         if let Some(refusal) = self.open_refusal() {
             return Err(refusal);
@@ -30,7 +30,7 @@ impl<R: Routing, A: Arbiter> Fabric<R, A> {
         source: usize,
         destination: usize,
     ) -> Result<usize, Refusal>
-        ensures { Answered A.Arbiter.rule (inject source destination) self.old self.new (numbered result) }
+        ensures { Answered A.rule (inject source destination) self.old self.new (numbered result) }
     {
         if let Some(refusal) = self.inject_refusal(source, destination) {
             return Err(refusal);
@@ -40,7 +40,7 @@ impl<R: Routing, A: Arbiter> Fabric<R, A> {
 
     // Closes the feed. The token is spent either way.
     pub fn close(&mut self, feed: Feed) -> Result<(), Refusal>
-        ensures { Answered A.Arbiter.rule close_feed self.old self.new (closed result) }
+        ensures { Answered A.rule close_feed self.old self.new (closed result) }
     {
         feed.spend();
         if let Some(refusal) = self.close_refusal() {
@@ -52,7 +52,7 @@ impl<R: Routing, A: Arbiter> Fabric<R, A> {
 
     // Was the feed not opened before?
     fn open_refusal(&self) -> Option<Refusal>
-        ensures { Asked A.Arbiter.rule open_feed self.now result }
+        ensures { Asked A.rule open_feed self.now result }
     {
         match self.body.feed {
             FeedState::Unopened => None,
@@ -63,7 +63,7 @@ impl<R: Routing, A: Arbiter> Fabric<R, A> {
     // The feed of a fabric that was not opened before is open.
     fn mark_open(&mut self)
         requires may { May open_feed self.old }
-        ensures { Answered A.Arbiter.rule open_feed self.old self.new done }
+        ensures { Answered A.rule open_feed self.old self.new done }
     {
         self.body.feed = FeedState::Open;
     }
@@ -71,7 +71,7 @@ impl<R: Routing, A: Arbiter> Fabric<R, A> {
     // Is the feed open, are source and destination nodes, were fewer than 60,000 packets taken in, and has the injection
     // buffer room?
     fn inject_refusal(&self, source: usize, destination: usize) -> Option<Refusal>
-        ensures { Asked A.Arbiter.rule (inject source destination) self.now result }
+        ensures { Asked A.rule (inject source destination) self.now result }
     {
         match self.body.feed {
             FeedState::Open => {}
@@ -96,7 +96,7 @@ impl<R: Routing, A: Arbiter> Fabric<R, A> {
     // Takes a packet in that no question refuses.
     fn take_in(&mut self, source: usize, destination: usize) -> usize
         requires may { May (inject source destination) self.old }
-        ensures { Answered A.Arbiter.rule (inject source destination) self.old self.new (number result) }
+        ensures { Answered A.rule (inject source destination) self.old self.new (number result) }
     {
         let b = self.body.sizes.buffers - self.body.sizes.nodes + source;
         self.body.take_in(b, source as u8, destination as u8)
@@ -104,7 +104,7 @@ impl<R: Routing, A: Arbiter> Fabric<R, A> {
 
     // Is the feed open?
     fn close_refusal(&self) -> Option<Refusal>
-        ensures { Asked A.Arbiter.rule close_feed self.now result }
+        ensures { Asked A.rule close_feed self.now result }
     {
         match self.body.feed {
             FeedState::Open => None,
@@ -115,7 +115,7 @@ impl<R: Routing, A: Arbiter> Fabric<R, A> {
     // The feed of a fabric that was open is closed.
     fn mark_closed(&mut self)
         requires may { May close_feed self.old }
-        ensures { Answered A.Arbiter.rule close_feed self.old self.new done }
+        ensures { Answered A.rule close_feed self.old self.new done }
     {
         self.body.feed = FeedState::Closed;
     }

@@ -18,7 +18,7 @@ pub fn make<R: Routing, A: Arbiter>(
     arbiter: A,
     depth: usize,
 ) -> Result<Fabric<R, A>, NotMade<R, A>>
-    ensures { Making (R.meaning routing) A.Arbiter.rule depth routing arbiter result }
+    ensures { Making (R.meaning routing) A.rule depth routing arbiter result }
 {
     if let Some(refusal) = make_refusal(&routing, depth) {
         return Err(not_made(routing, arbiter, depth, refusal));
@@ -62,7 +62,7 @@ fn not_made<R: Routing, A: Arbiter>(
 // The fabric that no question refuses.
 fn made<R: Routing, A: Arbiter>(routing: R, arbiter: A, depth: usize) -> Fabric<R, A>
     requires asked { MakeAsked (R.meaning routing) depth None }
-    ensures { Made (R.meaning routing) A.Arbiter.rule depth routing arbiter result }
+    ensures { Made (R.meaning routing) A.rule depth routing arbiter result }
 {
     let table = Table::read(&routing);
     let sizes = Sizes::of(&routing, depth);
