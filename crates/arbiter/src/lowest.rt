@@ -3,7 +3,7 @@ ghost use Rattle.std.specs.Prelude.{◌≡◌, IfSome};
 ghost use Rattle.arbiter.specs.Proper.{Ordered};
 ghost use Rattle.arbiter.specs.Rule.{Granted};
 ghost use Rattle.arbiter.specs.Lowest.{lowest, NoneLower};
-ghost use Rattle.std.proofs.Common.{rules};
+ghost use Rattle.arbiter.specs.Order.{lowest_exists};
 
 use crate::{Arbiter, Entry, is_proper};
 
@@ -14,7 +14,7 @@ pub struct Lowest;
 impl Arbiter for Lowest {
     ghost rule = { lowest };
 
-    ghost exists = { Prim.search rules };
+    ghost exists = { lowest_exists };
 
     // Where it grants, no listed buffer is lower than the granted one.
     fn grant(&mut self, link: usize, entries: &[Entry]) -> Option<usize>

@@ -1,5 +1,5 @@
 -- What making a labelling answers. Assumes nothing.
-use Rattle.std.specs.Prelude.{◌≡◌, ℕ, ◌<◌, ◌≤◌, List, length, Ok, Err, Result, ◌≢◌, slice_index, slice_index_or}
+use Rattle.std.specs.Prelude.{◌≡◌, ℕ, ◌<◌, ◌≤◌, List, length, Ok, Err, Result, ◌≢◌, slice_index}
 use Rattle.relabelling.specs.declared.labelling.Labelling.{Labelling}
 use Rattle.relabelling.specs.declared.refusal.LabellingRefusal.{LabellingRefusal}
 use Rattle.relabelling.specs.declared.refusal.LabellingRefusal.TheVariants.{Count, Outside, Repeated}
@@ -32,7 +32,7 @@ pub record Outsider (xs : List ℕ) (i : ℕ) : Type 0 where
 pub record Repeat (xs : List ℕ) (i j : ℕ) : Type 0 where
   pub before : i < j
   pub label_in : j < length xs
-  pub same : slice_index_or xs i 0 ≡ slice_index xs j
+  pub same : slice_index xs i ≡ slice_index xs j
   pub earliest : OnceBelow j xs
 
 -- The labelling has as many labels, and each its position.

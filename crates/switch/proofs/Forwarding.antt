@@ -67,7 +67,7 @@ module _ (start : Snapshot) (law : Lawful start.network) (n p d c : ℕ) where
       go true t k =
           let net = start.network in
           let parts = and_parts _ _ t in
-          let same-port = eqb-true a.port p parts.0 in
+          let same_port = eqb-true a.port p parts.0 in
           let l = hop_nearer net law n d a e in
           let he : a.class + 1 < net.classes + 1 = omega (arith, l.class_in) in
           let lk : net.link n p ≡ Some a.next = let f = l.along in cc in
@@ -76,7 +76,7 @@ module _ (start : Snapshot) (law : Lawful start.network) (n p d c : ℕ) where
           (λ x _ ch. (
             a,
             ap (λ (y : ℕ). net.escape y d) (buffer_upstream net n p (a.class + 1) hp he) ∙ e,
-            same-port ∙ sym (buffer_port net n p (a.class + 1) hp he),
+            same_port ∙ sym (buffer_port net n p (a.class + 1) hp he),
             (let k = buffer_channel net n p (a.class + 1) he in omega arith),
           ))
           parts.1 (cc)

@@ -114,7 +114,7 @@ module _ (net : Network) (law : Lawful net) (depth now : ℕ) (deep : 1 ≤ dept
       let from : upstream net b ≡ n = buffer_upstream net n a.port (a.class + 1) l.port_in cu in
       let by : port_of net b ≡ a.port = buffer_port net n a.port (a.class + 1) l.port_in cu in
       let ee : net.escape n q.destination ≡ Some a' = subst (λ (x : ℕ). net.escape x q.destination ≡ Some a') from es.1 in
-      let same-port : a'.port ≡ a.port = es.2 ∙ by in
+      let same_port : a'.port ≡ a.port = es.2 ∙ by in
       let same_class : a'.class ≡ a.class = es.3 in
       let l' = hop_nearer net law n q.destination a' ee in
       let same_next : a'.next ≡ a.next = let f = l.along in let g = l'.along in cc in

@@ -64,7 +64,7 @@ link_way_at nodes n p m extra l = elim (cases_lt p 2) [
 abbrev Heights : ℕ → ℕ → Type 0
 Heights height nodes = ((height ≡ 1) × (nodes ≡ 3)) ⊎ (((height ≡ 2) × (nodes ≡ 7)) ⊎ (((height ≡ 3) × (nodes ≡ 15)) ⊎ (((height ≡ 4) × (nodes ≡ 31)) ⊎ ((height ≡ 5) × (nodes ≡ 63)))))
 
-module _ (nodes height fat : ℕ) (of-height : Heights height nodes) where
+module _ (nodes height fat : ℕ) (of_height : Heights height nodes) where
   abbrev rule : Network
   rule = tree_rule nodes height fat
 
