@@ -6,11 +6,11 @@ use Rattle.network.specs.Network.{Network}
 use Rattle.network.proofs.Options.{some_none}
 use Rattle.switch.specs.Places.{buffer_count, location}
 use Rattle.cycle.specs.declared.standing.Standing.{Standing}
-use Rattle.cycle.specs.Chains.{FirstFrom, first_at, ChainedFrom}
+use Rattle.cycle.specs.Chains.{FirstFrom, first_at, no_chains, ChainedFrom}
 
--- the chains of no buffer: every entry is the number of buffers
+-- no buffer is from the number of buffers on
 pub chained_none : (net : Network) (none : ℕ) → none ≡ buffer_count net → net.nodes ≤ 64
-    → ChainedFrom net (record { first = replicate 64 none; next = replicate 2048 none }) none
+    → ChainedFrom net (no_chains none) none
 chained_none net none e few = record {
   heads = λ n h.
       let k : get_or (replicate 64 none) n 0 ≡ none = get_or-replicate 64 n none 0 (omega arith) in

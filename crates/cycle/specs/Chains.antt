@@ -1,5 +1,5 @@
 -- The buffers that stand at each node, chained in rising order. Assumes nothing.
-use Rattle.std.specs.Prelude.{◌≡◌, ℕ, suc, ◌<◌, ◌≤◌, ◌≢◌, Some, slice_index}
+use Rattle.std.specs.Prelude.{◌≡◌, ℕ, suc, ◌<◌, ◌≤◌, ◌≢◌, replicate, Some, slice_index}
 use Rattle.network.specs.Network.{Network}
 use Rattle.switch.specs.Places.{buffer_count, location}
 use Rattle.cycle.specs.declared.standing.Standing.{Standing}
@@ -17,6 +17,10 @@ first_at standing n = slice_index standing.first n
 
 abbrev pub next_after : Standing → ℕ → ℕ
 next_after standing b = slice_index standing.next b
+
+-- The chains of no buffer: each entry is the number of buffers.
+abbrev pub no_chains : ℕ → Standing
+no_chains none = record { first = replicate 64 none; next = replicate 2048 none }
 
 -- The chains of the buffers from b on.
 pub record ChainedFrom (net : Network) (standing : Standing) (b : ℕ) : Type 0 where

@@ -16,6 +16,7 @@ pub struct Sizes {
 
 impl Sizes {
     // The sizes of a routing, for buffers of a depth.
+    #[tactic(auto, using(crate::proofs::Fitting::buffer_count_is))]
     pub fn of<R: Routing>(routing: &R, depth: usize) -> Self
         ensures { Measured (R.meaning routing.now) depth result }
     {
@@ -32,6 +33,7 @@ impl Sizes {
     }
 
     // The buffer of channel `c` of the link that leaves node `n` by port `p`.
+    #[tactic(auto, using(crate::proofs::Fitting::channel_buffer_within))]
     pub fn channel_buffer(self, n: usize, p: usize, c: usize) -> usize
         requires bounded { Bounded self }
         requires node { n < self.nodes }

@@ -2,7 +2,7 @@
 ghost use Rattle.std.specs.Prelude.{◌≡◌, ◌<◌};
 ghost use Rattle.switch.specs.Places.{location as location_of};
 ghost use Rattle.cycle.specs.Measures.{Fits};
-ghost use Rattle.cycle.specs.Chains.{Stands, ChainedFrom, first_at, next_after};
+ghost use Rattle.cycle.specs.Chains.{Stands, ChainedFrom, no_chains, first_at, next_after};
 
 use crate::Sizes;
 use network::Routing;
@@ -22,12 +22,19 @@ impl Standing {
         ensures { Stands (R.meaning routing.now) result }
     {
         let none = sizes.buffers as u16;
-        let mut standing = Standing {
-            first: [none; 64],
-            next: [none; 2048],
-        };
+        let mut standing = Standing::empty(none);
         chain(routing, sizes, &mut standing);
         standing
+    }
+
+    // No buffer stands at any node yet: each entry is `none`, the number of buffers.
+    fn empty(none: u16) -> Self
+        ensures { result ≡ no_chains none }
+    {
+        Standing {
+            first: [none; 64],
+            next: [none; 2048],
+        }
     }
 
     // The first buffer that stands at node `n`.
@@ -62,6 +69,7 @@ fn chain<R: Routing>(routing: &R, sizes: Sizes, standing: &mut Standing)
 }
 
 // The node where a buffer stands.
+#[tactic(auto, using(crate::proofs::Locations::nodes_within, crate::proofs::Locations::some_port, crate::proofs::Locations::at_far_end, crate::proofs::Locations::at_own_node))]
 pub fn location<R: Routing>(routing: &R, sizes: Sizes, b: usize) -> Option<usize>
     requires fits { Fits (R.meaning routing.now) sizes }
     requires buffer { b < sizes.buffers }
