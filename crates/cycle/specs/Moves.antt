@@ -1,5 +1,5 @@
 -- Grants that can be carried out one after another, and what carrying them out leaves. Assumes nothing.
-use Rattle.std.specs.Prelude.{◌≡◌, ℕ, ◌<◌, ◌≤◌, List, [], ◌∷◌, length, drop, count_by, nat_eq, slice_set}
+use Rattle.std.specs.Prelude.{◌≡◌, ℕ, ◌<◌, ◌≤◌, List, [], ◌∷◌, length, drop, count_by, ◌==◌, slice_set}
 use Rattle.std.specs.List.{AllByRecursion}
 use Rattle.queue.specs.declared.packet.Packet.{Packet}
 use Rattle.queue.specs.declared.queues.Queues.{Queues}
@@ -31,5 +31,5 @@ pub record Moved (sizes : Sizes) (old new : Queues) (g : Grant) : Type 0 where
 -- The grants were carried out, and so many of them are deliveries.
 pub record AllMoved (sizes : Sizes) (old new : Queues) (gs : List Grant) (delivered : ℕ) : Type 0 where
   pub buffers_are : buffers_in sizes new ≡ moves sizes.buffers (buffers_in sizes old) gs
-  pub delivered_is : delivered ≡ count_by (λ g. nat_eq g.new sizes.buffers) gs
+  pub delivered_is : delivered ≡ count_by (λ g. g.new == sizes.buffers) gs
   pub sound : Sound new sizes.depth

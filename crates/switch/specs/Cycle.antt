@@ -1,5 +1,5 @@
 -- One cycle of the switch: who requests which port, what is granted, and how the granted packets move. Assumes nothing.
-use Rattle.std.specs.Prelude.{ℕ, zero, suc, ◌+◌, ◌*◌, Bool, true, false, cond, not, ◌&&◌, List, [], ◌∷◌, ◌++◌, map, length, set, Some, None, Option, ◌==◌, nat_lt, slice_index_or, slice_set}
+use Rattle.std.specs.Prelude.{ℕ, zero, suc, ◌+◌, ◌*◌, Bool, true, false, cond, not, ◌&&◌, List, [], ◌∷◌, ◌++◌, map, length, Some, None, Option, ◌==◌, nat_lt, slice_index_or, slice_set}
 use Rattle.queue.specs.declared.packet.Packet.{Packet}
 use Rattle.network.specs.declared.hop.Hop.{Hop}
 use Rattle.network.specs.Network.{Network}
@@ -143,7 +143,7 @@ hopped q = record { number = q.number; source = q.source; destination = q.destin
 abbrev pub forward : ℕ → Buffers → Grant → List Packet → Buffers
 forward t bs g [] = bs
 forward t bs g (q ∷ qs) =
-    let left = set bs g.old qs in
+    let left = slice_set bs g.old qs in
     cond (g.new == t) left (enqueue left g.new (hopped q))
 
 unfoldable pub move : ℕ → Buffers → Grant → Buffers

@@ -1,5 +1,5 @@
 -- What a history tells. Assumes nothing.
-use Rattle.std.specs.Prelude.{ℕ, suc, ◌+◌, ◌-◌, Bool, true, false, cond, not, ◌&&◌, List, [], ◌∷◌, ◌++◌, length, Some, fold, count_by, filter, Option, ◌==◌, nat_eq, slice_index_or}
+use Rattle.std.specs.Prelude.{ℕ, suc, ◌+◌, ◌-◌, Bool, true, false, cond, not, ◌&&◌, List, [], ◌∷◌, ◌++◌, length, Some, fold, count_by, filter, Option, ◌==◌, slice_index_or}
 use Rattle.network.specs.Network.{Network}
 use Rattle.switch.specs.declared.grant.Grant.{Grant}
 use Rattle.switch.specs.declared.report.Report.{Report}
@@ -70,7 +70,7 @@ deliveries_of net k gs = count_by (λ g. (g.packet == k) && delivers net g) gs
 
 -- and its grants themselves, in order.
 abbrev pub grants_of : ℕ → List Grant → List Grant
-grants_of k gs = filter (λ g. nat_eq g.packet k) gs
+grants_of k gs = filter (λ g. g.packet == k) gs
 
 -- How many packets were taken in and not delivered.
 abbrev pub inside_in : Network → List Event → ℕ

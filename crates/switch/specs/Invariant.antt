@@ -1,5 +1,5 @@
 -- The invariant of the switch: what holds of its state after a history. Assumes nothing.
-use Rattle.std.specs.Prelude.{◌≡◌, ℕ, suc, ◌+◌, ◌<◌, ◌≤◌, cond, ◌⊎◌, List, [], ◌∷◌, ◌++◌, length, get_or, Some, sum_by, ◌==◌, slice_index_or}
+use Rattle.std.specs.Prelude.{◌≡◌, ℕ, suc, ◌+◌, ◌<◌, ◌≤◌, cond, ◌⊎◌, List, [], ◌∷◌, ◌++◌, length, Some, sum_by, ◌==◌, slice_index_or}
 use Rattle.std.specs.List.{AllByRecursion}
 use Rattle.queue.specs.declared.packet.Packet.{Packet}
 use Rattle.network.specs.declared.hop.Hop.{Hop}
@@ -43,7 +43,7 @@ held bs = total_from (λ _ _. 1) 0 bs
 pub record Good (net : Network) (es : List Endpoints) (gs : List Grant) (b : ℕ) (q : Packet) : Type 0 where
   pub placed : Placed net b q
   pub known : q.number < length es
-  pub ends_are : get_or es q.number no_endpoints ≡ record { source = q.source; destination = q.destination }
+  pub ends_are : slice_index_or es q.number no_endpoints ≡ record { source = q.source; destination = q.destination }
   pub hops_are : q.hops ≡ hops_of net q.number gs
   pub position_is : location net b ≡ position net q.number (slice_index_or es q.number no_endpoints) gs
   pub left : q.hops + distance_from net (location net b) q.destination ≡ net.distance q.source q.destination
