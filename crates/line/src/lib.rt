@@ -23,7 +23,7 @@ impl Line {
     fn is_usable(&self) -> bool
         ensures { result ≡ line_sized self.now.size }
     {
-        2 <= self.size && self.size <= 64
+        (2..=64).contains(&self.size)
     }
 }
 
@@ -36,6 +36,7 @@ impl Routing for Line {
 
     ghost follows = { λ x. follows_of _ (line_lawful x.size) };
 
+    // This number and the next two are kept as plain `if`s, since `then_some(..).unwrap_or(0)` says the same at more length.
     fn nodes(&self) -> usize {
         if self.is_usable() { self.size } else { 0 }
     }
@@ -56,13 +57,12 @@ impl Routing for Line {
     // Port 0 leads up and port 1 down, with no link past the ends.
     fn link(&self, n: usize, p: usize) -> Option<usize> {
         if n >= self.nodes() {
-            None
-        } else if p == 0 && n + 1 < self.size {
-            Some(n + 1)
-        } else if p == 1 && n > 0 {
-            Some(n - 1)
-        } else {
-            None
+            return None;
+        }
+        match p {
+            0 => (n + 1 < self.size).then_some(n + 1),
+            1 => n.checked_sub(1),
+            _ => None,
         }
     }
 
@@ -96,14 +96,12 @@ impl Routing for Line {
 
     // Ranks rise in the direction of travel.
     fn rank(&self, n: usize, p: usize, e: usize) -> usize {
-        if n >= self.nodes() || e >= CLASSES {
+        if e >= CLASSES || self.link(n, p).is_none() {
             0
-        } else if p == 0 && n + 1 < self.size {
+        } else if p == 0 {
             n
-        } else if p == 1 && n > 0 {
-            self.size - 1 - n
         } else {
-            0
+            self.size - 1 - n
         }
     }
 }

@@ -40,6 +40,7 @@ pub enum RouteError {
     OutOfMemory,
 }
 
+// By hand, since a derived one has no contract, and the clauses name `OutOfMemory`.
 impl<T: Drop> From<AllocFailed<T>> for RouteError {
     ghost from_gives = { λ refused r. r ≡ OutOfMemory };
 

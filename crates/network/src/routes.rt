@@ -3,23 +3,21 @@ ghost use Rattle.std.specs.Prelude.{◌≡◌, ◌<◌};
 ghost use Rattle.network.specs.Routes.{Routed, step_by};
 ghost use Rattle.std.specs.Option.{option_map};
 
-use crate::{RouteError, RouteStep, Routing};
+use crate::{Hop, RouteError, RouteStep, Routing};
 use std::alloc::Global;
 
 // The step that escape takes from `node` towards `end`, with its rank.
 fn next_step<R: Routing>(routing: &R, node: usize, end: usize) -> Option<RouteStep>
     ensures { result ≡ option_map (step_by (R.meaning routing.now) node) ((R.meaning routing.now).escape node end) }
 {
-    match routing.escape(node, end) {
-        Some(hop) => Some(RouteStep {
-            node,
-            port: hop.port,
-            class: hop.class,
-            rank: routing.rank(node, hop.port, hop.class),
-            next: hop.next,
-        }),
-        None => None,
-    }
+    let Hop { port, class, next } = routing.escape(node, end)?;
+    Some(RouteStep {
+        node,
+        port,
+        class,
+        rank: routing.rank(node, port, class),
+        next,
+    })
 }
 
 // The steps from `start` to `end`, which are nodes.

@@ -84,16 +84,9 @@ fn check_route<R: Routing>(
     end: usize,
     steps: &[RouteStep],
 ) -> Result<(), Fail> {
-    match route(heap, routing, start, end) {
-        Ok(traced) => {
-            assert_eq!(rt; traced.len(), steps.len());
-            for (made, wanted) in traced.iter().zip(steps.iter()) {
-                assert_eq!(rt; *made, *wanted);
-            }
-            Ok(())
-        }
-        Err(_) => Err(Fail::new("there is a route")),
-    }
+    let traced = route(heap, routing, start, end)?;
+    assert_eq!(rt; traced.as_slice(), steps);
+    Ok(())
 }
 
 #[test]
@@ -141,13 +134,11 @@ fn check_no_route<R: Routing>(
     end: usize,
     error: RouteError,
 ) -> Result<(), Fail> {
-    match route(heap, routing, start, end) {
-        Ok(_) => Err(Fail::new("there is no route")),
-        Err(answer) => {
-            assert_eq!(rt; answer, error);
-            Ok(())
-        },
-    }
+    let Err(answer) = route(heap, routing, start, end) else {
+        return Err(Fail::new("there is no route"));
+    };
+    assert_eq!(rt; answer, error);
+    Ok(())
 }
 
 #[test]

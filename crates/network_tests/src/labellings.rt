@@ -13,14 +13,12 @@ fn check_refused(
     refusal: LabellingRefusal,
     number: u8,
 ) -> Result<(), Fail> {
-    match Labelling::new(bytes) {
-        Ok(_) => Err(Fail::new(format_args!("the bytes are refused: {case}"))),
-        Err(answer) => {
-            assert_eq!(rt; answer, refusal, "{case}");
-            assert_eq!(rt; answer.number(), number, "{case}");
-            Ok(())
-        }
-    }
+    let Err(answer) = Labelling::new(bytes) else {
+        return Err(Fail::new(format_args!("the bytes are refused: {case}")));
+    };
+    assert_eq!(rt; answer, refusal, "{case}");
+    assert_eq!(rt; answer.number(), number, "{case}");
+    Ok(())
 }
 
 #[test]
@@ -100,8 +98,8 @@ fn made(rt: HostRuntime) -> Result<(), Fail> {
     let bytes = [2, 0, 3, 1];
     let labelling = Labelling::new(&bytes)?;
     assert_eq!(rt; labelling.len(), 4);
-    for (label, position) in bytes.iter().enumerate() {
-        assert_eq!(rt; labelling.position(label), Some(*position as usize));
+    for (label, &position) in bytes.iter().enumerate() {
+        assert_eq!(rt; labelling.position(label), Some(usize::from(position)));
     }
     assert_eq!(rt; labelling.position(4), None);
     Ok(())

@@ -9,16 +9,16 @@ use std::process::Abort;
 use std::test::Fail;
 use tree::Tree;
 
+// Each check takes the handle, the name and the routing: a struct of the three would need a `drop` by hand, and its methods
+// would say no more.
+
 // Law 1.
 fn check_sizes<R: Routing>(rt: &impl Abort, name: &str, routing: &R) {
     let nodes = routing.nodes();
-    assert!(rt; 2 <= nodes && nodes <= 64, "{name}");
-    assert!(rt; 1 <= routing.ports() && routing.ports() <= 6, "{name}");
-    assert!(rt; 1 <= routing.classes() && routing.classes() <= 2, "{name}");
-    assert!(rt;
-        1 <= routing.ceiling() && routing.ceiling() <= 2 * nodes,
-        "{name}"
-    );
+    assert!(rt; (2..=64).contains(&nodes), "{name}");
+    assert!(rt; (1..=6).contains(&routing.ports()), "{name}");
+    assert!(rt; (1..=2).contains(&routing.classes()), "{name}");
+    assert!(rt; (1..=2 * nodes).contains(&routing.ceiling()), "{name}");
 }
 
 // Law 2, from node `n` to node `d`.

@@ -1,5 +1,5 @@
 -- The product of two lawful networks is lawful. Assumes nothing.
-use Rattle.std.proofs.Common.{◌≡◌, ℕ, ◌+◌, ◌-◌, ◌*◌, ◌<◌, ◌≤◌, true, ◌&&◌, ltb, leb, ◌≢◌, ◌⊎◌, Some, None, Option, sym, ap, ◌∙◌, inl, inr, mul-le-mul_right, mod-lt, mod-eq_of_lt, mul_comm, div-lt_iff_lt-mul, mul-le-mul, mul-le-mul_left, zero-add, arith}
+use Rattle.std.proofs.Common.{◌≡◌, ℕ, ◌+◌, ◌-◌, ◌*◌, ◌<◌, ◌≤◌, true, ◌&&◌, ltb, leb, ◌≢◌, ◌⊎◌, Some, None, Option, sym, ap, ◌∙◌, inl, inr, mul-le-mul_right, mod-lt, mod-eq_of_lt, mul_comm, div-lt_iff_lt-mul, mul-le-mul_left, zero-add, arith}
 use native.Mathlib.Nat.{div-eq_of_lt, mod-add-div, add-mul-mod_self_left, add-mul-div_left}
 use lib.Arith.{digits_lt}
 use Rattle.std.specs.Option.{option_map}
@@ -11,10 +11,6 @@ use Rattle.network.proofs.Options.{mapped_some}
 use Rattle.network.proofs.Consequences.{link_asked, hop_nearer, hop_node, hop_rises, rank_under}
 use Rattle.network.proofs.Restricted.{Sound, usable_lawful}
 use Rattle.product.specs.Products.{column, row, node_at, hop_first, hop_second, product_rule, product_sized, product}
-
--- two numbers of nodes do not overflow
-pub times_small : (a b : ℕ) → a ≤ 64 → b ≤ 64 → a * b ≤ 4096
-times_small a b x y = mul-le-mul x y
 
 sum_small : (a b : ℕ) → 2 ≤ a → 2 ≤ b → a + b ≤ a * b
 sum_small a b x y = omega (arith, mul-le-mul_left a y, mul-le-mul_right b x)

@@ -45,6 +45,7 @@ impl<X: Routing, Y: Routing> Routing for Product<X, Y> {
 
     ghost follows = { λ x. follows_of _ (product_lawful (X.meaning x.first) (Y.meaning x.second) (X.lawful x.first) (Y.lawful x.second)) };
 
+    // The four numbers are kept as plain `if`s, since `then_some(..).unwrap_or(0)` says the same at more length.
     fn nodes(&self) -> usize {
         if self.is_usable() {
             self.first.nodes() * self.second.nodes()
@@ -86,15 +87,11 @@ impl<X: Routing, Y: Routing> Routing for Product<X, Y> {
         let own = self.first.ports();
         let (a, b) = (n % width, n / width);
         if p < own {
-            match self.first.link(a, p) {
-                Some(next) => Some(node_at(width, next, b)),
-                None => None,
-            }
+            let next = self.first.link(a, p)?;
+            Some(node_at(width, next, b))
         } else {
-            match self.second.link(b, p - own) {
-                Some(next) => Some(node_at(width, a, next)),
-                None => None,
-            }
+            let next = self.second.link(b, p - own)?;
+            Some(node_at(width, a, next))
         }
     }
 
@@ -116,23 +113,18 @@ impl<X: Routing, Y: Routing> Routing for Product<X, Y> {
         let width = self.first.nodes();
         let (a, b) = (n % width, n / width);
         if a != d % width {
-            match self.first.escape(a, d % width) {
-                Some(hop) => Some(Hop {
-                    port: hop.port,
-                    class: hop.class,
-                    next: node_at(width, hop.next, b),
-                }),
-                None => None,
-            }
+            let hop = self.first.escape(a, d % width)?;
+            Some(Hop {
+                next: node_at(width, hop.next, b),
+                ..hop
+            })
         } else {
-            match self.second.escape(b, d / width) {
-                Some(hop) => Some(Hop {
-                    port: self.first.ports() + hop.port,
-                    class: hop.class,
-                    next: node_at(width, a, hop.next),
-                }),
-                None => None,
-            }
+            let hop = self.second.escape(b, d / width)?;
+            Some(Hop {
+                port: self.first.ports() + hop.port,
+                next: node_at(width, a, hop.next),
+                ..hop
+            })
         }
     }
 

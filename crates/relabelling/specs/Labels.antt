@@ -40,9 +40,13 @@ pub record Listed (xs : List ℕ) (l : Labelling) : Type 0 where
   pub count_is : l.count ≡ length xs
   pub positions_are : (i : ℕ) → i < length xs → slice_index l.positions i ≡ slice_index xs i
 
--- Refused by the first question that fails, with the place where it does; else a labelling that lists the bytes.
+-- The first question that the bytes fail, with the place where they do.
+abbrev pub Refused : List ℕ → LabellingRefusal → Type 0
+Refused xs (Count count) = (Counted xs → ⊥) × (count ≡ length xs)
+Refused xs (Outside label position) = Counted xs × Outsider xs label × (position ≡ slice_index xs label)
+Refused xs (Repeated first second) = Counted xs × Within xs × Repeat xs first second
+
+-- Refused by the first question that fails; else a labelling that lists the bytes.
 abbrev pub Labelled : List ℕ → Result Labelling LabellingRefusal → Type 0
-Labelled xs (Err (Count count)) = (Counted xs → ⊥) × (count ≡ length xs)
-Labelled xs (Err (Outside label position)) = Counted xs × Outsider xs label × (position ≡ slice_index xs label)
-Labelled xs (Err (Repeated first second)) = Counted xs × Within xs × Repeat xs first second
+Labelled xs (Err refusal) = Refused xs refusal
 Labelled xs (Ok l) = Counted xs × Within xs × Once xs × Listed xs l

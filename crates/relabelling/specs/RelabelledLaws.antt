@@ -1,6 +1,6 @@
 -- A lawful network whose nodes are named by labels is lawful. Assumes nothing.
-use Rattle.std.proofs.Common.{◌≡◌, ℕ, zero, suc, ◌+◌, ◌<◌, cond, eqb, ltb, ◌≢◌, List, get_or, Some, None, Option, sym, ap, ◌∙◌, inl, inr, add-one, arith}
-use Rattle.std.specs.Option.{option_map}
+use Rattle.std.proofs.Common.{◌≡◌, ℕ, zero, suc, ◌<◌, ◌≤◌, cond, eqb, ltb, ◌≢◌, List, get_or, Some, None, Option, sym, ap, ◌∙◌, inl, inr, refl, arith}
+use Rattle.std.specs.Option.{option_map, unwrap_or, MatchOption}
 use Rattle.std.proofs.lemmas.Bool.{cases_lt, cases_eq, cases_order, and_parts, ltb-true, eqb-true, eq-eqb, ne_eqb}
 use Rattle.network.specs.declared.hop.Hop.{Hop}
 use Rattle.network.specs.Network.{Network}
@@ -10,9 +10,6 @@ use Rattle.network.proofs.Consequences.{link_asked, hop_node, hop_rises}
 use Rattle.network.proofs.Restricted.{Sound, usable_lawful}
 use Rattle.relabelling.specs.declared.labelling.Labelling.{Labelling}
 use Rattle.relabelling.specs.Relabels.{label_of, hop_labelled, relabelled_rule, relabelled_sized, relabelled}
-
-pub label_next : (xs : List ℕ) (k x : ℕ) → label_of xs (k + 1) x ≡ cond (eqb (get_or xs k 0) x) k (label_of xs k x)
-label_next xs k x = rw add-one
 
 -- f below m, with f m in the place of what equals m
 unfoldable packed : (ℕ → ℕ) → ℕ → ℕ → ℕ
@@ -86,6 +83,24 @@ found xs (suc k) i x a e = elim (cases_eq (get_or xs k 0) x) [
       let w = found xs k i x (omega arith) e in
       rw (ne_eqb (get_or xs k 0) x d) (omega (arith, w.0), w.1)
 ]
+
+-- where no label has the position, 0 is found
+none_found : (xs : List ℕ) (k x : ℕ) → ((i : ℕ) → i < k → get_or xs i 0 ≢ x) → label_of xs k x ≡ 0
+none_found xs zero x h = refl
+none_found xs (suc k) x h = rw (ne_eqb (get_or xs k 0) x (h k (omega arith))) (none_found xs k x (λ i a. h i (omega arith)))
+
+-- The label is what a search of all labels for the position finds, and 0 where it finds none.
+pub label_is : (l : Labelling) (x : ℕ) (o : Option ℕ)
+    → MatchOption o ((i : ℕ) → 0 ≤ i → i < l.count → get_or l.positions i 0 ≢ x)
+    (λ i. (0 ≤ i) × (i < l.count) × (get_or l.positions i 0 ≡ x) × ((k : ℕ) → 0 ≤ k → k < i → get_or l.positions k 0 ≢ x))
+    → unwrap_or o 0 ≡ label_of l.positions l.count x
+label_is l x None none = sym (none_found l.positions l.count x (λ i a. none i (omega arith) a))
+label_is l x (Some i) some =
+    let w = found l.positions l.count i x some.1 some.2 in
+    elim (cases_order i (label_of l.positions l.count x)) [
+      | inl z ↦ z
+      | inr v ↦ elim v [ inl z ↦ absurd (l.once i _ z w.0 (some.2 ∙ sym w.1)) | inr z ↦ absurd (l.once _ i z some.1 (w.1 ∙ sym some.2)) ]
+    ]
 
 module _ (count : ℕ) (xs : List ℕ) (within : (i : ℕ) → i < count → get_or xs i 0 < count) (once : (i j : ℕ) → i < j → j < count → get_or xs i 0 ≡ get_or xs j 0 → ⊥) where
   abbrev position : ℕ → ℕ

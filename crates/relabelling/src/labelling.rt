@@ -1,7 +1,8 @@
 // A labelling is a permutation of nodes: each label has a position, and no two share one.
 ghost use Rattle.std.specs.Prelude.{◌≡◌, ℕ, ◌<◌, ◌≤◌, ◌≢◌, slice_index};
 
-// The positions of the labels 0, 1 and so on stand in front; what is behind the first `count` means nothing.
+// The positions of the labels 0, 1 and so on stand in front; what is behind the first `count` means nothing. Kept as an
+// array and a count, since a labelling is copied and uses no heap: a `Vec` and an `ArrayVec` are not `Copy`.
 #[derive(Clone, Copy)]
 pub struct Labelling {
     count: usize,

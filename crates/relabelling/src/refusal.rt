@@ -13,7 +13,7 @@ pub enum LabellingRefusal {
 }
 
 impl LabellingRefusal {
-    // The number of the refusal: 13, 14 or 15.
+    // The number of the refusal: 13, 14 or 15. Kept as a method and no `From`, since the number drops what the refusal holds.
     pub fn number(&self) -> u8
         ensures { result ≡ refusal_number self.now }
     {

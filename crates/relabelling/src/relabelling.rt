@@ -33,6 +33,7 @@ impl<X: Routing> Routing for Relabelling<X> {
 
     ghost follows = { λ x. follows_of _ (relabelled_lawful x.labelling (X.meaning x.routing) (X.lawful x.routing)) };
 
+    // The four numbers are kept as plain `if`s, since `then_some(..).unwrap_or(0)` says the same at more length.
     fn nodes(&self) -> usize {
         if self.is_usable() {
             self.routing.nodes()
@@ -69,10 +70,8 @@ impl<X: Routing> Routing for Relabelling<X> {
         if n >= self.nodes() {
             return None;
         }
-        match self.routing.link(self.labelling.position_of(n), p) {
-            Some(next) => Some(self.labelling.label_at(next)),
-            None => None,
-        }
+        let next = self.routing.link(self.labelling.position_of(n), p)?;
+        Some(self.labelling.label_at(next))
     }
 
     fn distance(&self, n: usize, d: usize) -> usize {
@@ -88,14 +87,12 @@ impl<X: Routing> Routing for Relabelling<X> {
         if n >= nodes || d >= nodes || n == d {
             return None;
         }
-        match self.routing.escape(self.labelling.position_of(n), self.labelling.position_of(d)) {
-            Some(hop) => Some(Hop {
-                port: hop.port,
-                class: hop.class,
-                next: self.labelling.label_at(hop.next),
-            }),
-            None => None,
-        }
+        let (from, to) = (self.labelling.position_of(n), self.labelling.position_of(d));
+        let hop = self.routing.escape(from, to)?;
+        Some(Hop {
+            next: self.labelling.label_at(hop.next),
+            ..hop
+        })
     }
 
     fn rank(&self, n: usize, p: usize, e: usize) -> usize {

@@ -23,7 +23,7 @@ impl Ring {
     fn is_usable(&self) -> bool
         ensures { result ≡ ring_sized self.now.size }
     {
-        3 <= self.size && self.size <= 64
+        (3..=64).contains(&self.size)
     }
 }
 
@@ -44,6 +44,8 @@ impl Routing for Ring {
 
     ghost follows = { λ x. follows_of _ (ring_lawful x.size) };
 
+    // The four numbers are kept as plain `if`s, since `then_some(..).unwrap_or(0)` says the same at more length, and works
+    // out the number first, which would overflow at a size that is not usable.
     fn nodes(&self) -> usize {
         if self.is_usable() { self.size } else { 0 }
     }
@@ -89,35 +91,17 @@ impl Routing for Ring {
         if n >= nodes || d >= nodes || n == d {
             None
         } else if hops_up(nodes, n, d) <= hops_up(nodes, d, n) {
-            let next = (n + 1) % nodes;
-            if n > d {
-                Some(Hop {
-                    port: 0,
-                    class: 0,
-                    next,
-                })
-            } else {
-                Some(Hop {
-                    port: 0,
-                    class: 1,
-                    next,
-                })
-            }
+            Some(Hop {
+                port: 0,
+                class: if n > d { 0 } else { 1 },
+                next: (n + 1) % nodes,
+            })
         } else {
-            let next = (n + nodes - 1) % nodes;
-            if n < d {
-                Some(Hop {
-                    port: 1,
-                    class: 0,
-                    next,
-                })
-            } else {
-                Some(Hop {
-                    port: 1,
-                    class: 1,
-                    next,
-                })
-            }
+            Some(Hop {
+                port: 1,
+                class: if n < d { 0 } else { 1 },
+                next: (n + nodes - 1) % nodes,
+            })
         }
     }
 

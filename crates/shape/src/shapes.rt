@@ -20,6 +20,21 @@ pub enum Shape {
     Cylinder(Product<Ring, Line>),
 }
 
+// The answer to `$question`, asked of the routing that the shape holds, whichever kind it is. A macro, since a match binds
+// each kind at its own type, and a function may not yet lend one as a `dyn` to a closure.
+macro_rules! ask {
+    ($shape:expr, $routing:ident => $question:expr) => {
+        match $shape {
+            Shape::Line($routing) => $question,
+            Shape::Ring($routing) => $question,
+            Shape::Tree($routing) => $question,
+            Shape::Mesh($routing) => $question,
+            Shape::Torus($routing) => $question,
+            Shape::Cylinder($routing) => $question,
+        }
+    };
+}
+
 impl Routing for Shape {
     ghost meaning = { shaped };
 
@@ -30,90 +45,34 @@ impl Routing for Shape {
     ghost follows = { λ x. follows_of _ (shape_lawful x) };
 
     fn nodes(&self) -> usize {
-        match self {
-            Shape::Line(line) => line.nodes(),
-            Shape::Ring(ring) => ring.nodes(),
-            Shape::Tree(tree) => tree.nodes(),
-            Shape::Mesh(mesh) => mesh.nodes(),
-            Shape::Torus(torus) => torus.nodes(),
-            Shape::Cylinder(cylinder) => cylinder.nodes(),
-        }
+        ask!(self, routing => routing.nodes())
     }
 
     fn ports(&self) -> usize {
-        match self {
-            Shape::Line(line) => line.ports(),
-            Shape::Ring(ring) => ring.ports(),
-            Shape::Tree(tree) => tree.ports(),
-            Shape::Mesh(mesh) => mesh.ports(),
-            Shape::Torus(torus) => torus.ports(),
-            Shape::Cylinder(cylinder) => cylinder.ports(),
-        }
+        ask!(self, routing => routing.ports())
     }
 
     fn classes(&self) -> usize {
-        match self {
-            Shape::Line(line) => line.classes(),
-            Shape::Ring(ring) => ring.classes(),
-            Shape::Tree(tree) => tree.classes(),
-            Shape::Mesh(mesh) => mesh.classes(),
-            Shape::Torus(torus) => torus.classes(),
-            Shape::Cylinder(cylinder) => cylinder.classes(),
-        }
+        ask!(self, routing => routing.classes())
     }
 
     fn ceiling(&self) -> usize {
-        match self {
-            Shape::Line(line) => line.ceiling(),
-            Shape::Ring(ring) => ring.ceiling(),
-            Shape::Tree(tree) => tree.ceiling(),
-            Shape::Mesh(mesh) => mesh.ceiling(),
-            Shape::Torus(torus) => torus.ceiling(),
-            Shape::Cylinder(cylinder) => cylinder.ceiling(),
-        }
+        ask!(self, routing => routing.ceiling())
     }
 
     fn link(&self, n: usize, p: usize) -> Option<usize> {
-        match self {
-            Shape::Line(line) => line.link(n, p),
-            Shape::Ring(ring) => ring.link(n, p),
-            Shape::Tree(tree) => tree.link(n, p),
-            Shape::Mesh(mesh) => mesh.link(n, p),
-            Shape::Torus(torus) => torus.link(n, p),
-            Shape::Cylinder(cylinder) => cylinder.link(n, p),
-        }
+        ask!(self, routing => routing.link(n, p))
     }
 
     fn distance(&self, n: usize, d: usize) -> usize {
-        match self {
-            Shape::Line(line) => line.distance(n, d),
-            Shape::Ring(ring) => ring.distance(n, d),
-            Shape::Tree(tree) => tree.distance(n, d),
-            Shape::Mesh(mesh) => mesh.distance(n, d),
-            Shape::Torus(torus) => torus.distance(n, d),
-            Shape::Cylinder(cylinder) => cylinder.distance(n, d),
-        }
+        ask!(self, routing => routing.distance(n, d))
     }
 
     fn escape(&self, n: usize, d: usize) -> Option<Hop> {
-        match self {
-            Shape::Line(line) => line.escape(n, d),
-            Shape::Ring(ring) => ring.escape(n, d),
-            Shape::Tree(tree) => tree.escape(n, d),
-            Shape::Mesh(mesh) => mesh.escape(n, d),
-            Shape::Torus(torus) => torus.escape(n, d),
-            Shape::Cylinder(cylinder) => cylinder.escape(n, d),
-        }
+        ask!(self, routing => routing.escape(n, d))
     }
 
     fn rank(&self, n: usize, p: usize, e: usize) -> usize {
-        match self {
-            Shape::Line(line) => line.rank(n, p, e),
-            Shape::Ring(ring) => ring.rank(n, p, e),
-            Shape::Tree(tree) => tree.rank(n, p, e),
-            Shape::Mesh(mesh) => mesh.rank(n, p, e),
-            Shape::Torus(torus) => torus.rank(n, p, e),
-            Shape::Cylinder(cylinder) => cylinder.rank(n, p, e),
-        }
+        ask!(self, routing => routing.rank(n, p, e))
     }
 }

@@ -13,6 +13,17 @@ pub enum Topology {
     Relabelled(Relabelling<Shape>),
 }
 
+// The answer to `$question`, asked of the routing that the topology holds, with labels or without. A macro, for the reason
+// that stands at the one of `Shape`.
+macro_rules! ask {
+    ($topology:expr, $routing:ident => $question:expr) => {
+        match $topology {
+            Topology::Plain($routing) => $question,
+            Topology::Relabelled($routing) => $question,
+        }
+    };
+}
+
 impl Routing for Topology {
     ghost meaning = { topology_network };
 
@@ -23,58 +34,34 @@ impl Routing for Topology {
     ghost follows = { λ x. follows_of _ (topology_lawful x) };
 
     fn nodes(&self) -> usize {
-        match self {
-            Topology::Plain(shape) => shape.nodes(),
-            Topology::Relabelled(relabelling) => relabelling.nodes(),
-        }
+        ask!(self, routing => routing.nodes())
     }
 
     fn ports(&self) -> usize {
-        match self {
-            Topology::Plain(shape) => shape.ports(),
-            Topology::Relabelled(relabelling) => relabelling.ports(),
-        }
+        ask!(self, routing => routing.ports())
     }
 
     fn classes(&self) -> usize {
-        match self {
-            Topology::Plain(shape) => shape.classes(),
-            Topology::Relabelled(relabelling) => relabelling.classes(),
-        }
+        ask!(self, routing => routing.classes())
     }
 
     fn ceiling(&self) -> usize {
-        match self {
-            Topology::Plain(shape) => shape.ceiling(),
-            Topology::Relabelled(relabelling) => relabelling.ceiling(),
-        }
+        ask!(self, routing => routing.ceiling())
     }
 
     fn link(&self, n: usize, p: usize) -> Option<usize> {
-        match self {
-            Topology::Plain(shape) => shape.link(n, p),
-            Topology::Relabelled(relabelling) => relabelling.link(n, p),
-        }
+        ask!(self, routing => routing.link(n, p))
     }
 
     fn distance(&self, n: usize, d: usize) -> usize {
-        match self {
-            Topology::Plain(shape) => shape.distance(n, d),
-            Topology::Relabelled(relabelling) => relabelling.distance(n, d),
-        }
+        ask!(self, routing => routing.distance(n, d))
     }
 
     fn escape(&self, n: usize, d: usize) -> Option<Hop> {
-        match self {
-            Topology::Plain(shape) => shape.escape(n, d),
-            Topology::Relabelled(relabelling) => relabelling.escape(n, d),
-        }
+        ask!(self, routing => routing.escape(n, d))
     }
 
     fn rank(&self, n: usize, p: usize, e: usize) -> usize {
-        match self {
-            Topology::Plain(shape) => shape.rank(n, p, e),
-            Topology::Relabelled(relabelling) => relabelling.rank(n, p, e),
-        }
+        ask!(self, routing => routing.rank(n, p, e))
     }
 }

@@ -1,6 +1,7 @@
 -- The tree keeps the laws. Assumes nothing.
 use Rattle.std.specs.Prelude.{◌≡◌, ℕ, zero, suc, ◌+◌, ◌-◌, ◌*◌, ◌%◌, ◌^◌, ◌<◌, ◌≤◌, Bool, true, false, cond, ◌&&◌, ◌||◌, ◌≢◌, ◌⊎◌, Some, None, Option, ◌==◌, nat_le, nat_lt, refl}
-use Rattle.std.proofs.Common.{sym, ap, subst, ◌∙◌, inl, inr, arith, lit<, lit≤}
+use Rattle.std.proofs.Common.{sym, ap, subst, ◌∙◌, inl, inr, mod-eq_of_lt, add-one, arith, lit<, lit≤}
+use Rattle.std.proofs.Math.Nat.{pow-suc, pow-le-pow_right}
 use Rattle.std.proofs.lemmas.Bool.Decides.{nat_tests}
 use Rattle.std.proofs.lemmas.Bool.{both_ways, cases_order, cases_lt, cases_eq, cond_both, leb-true, and_parts, lt-ltb, le-ltb}
 use Rattle.network.specs.declared.hop.Hop.{Hop}
@@ -213,6 +214,15 @@ heights h f good =
         ]
       ]
     ]
+
+-- a shift gives the number of nodes
+pub nodes_shifted : (h f : ℕ) → tree_sized h f ≡ true → 2 * 2 ^ h % 2 ^ 64 - 1 ≡ (tree h f).nodes
+nodes_shifted h f good =
+    let t = and_parts (nat_le 1 h) (nat_le h 5 && nat_le f h) good in
+    let hi = leb-true h 5 (and_parts (nat_le h 5) (nat_le f h) t.1).0 in
+    let few : 2 ^ h ≤ 2 ^ 5 = pow-le-pow_right (lit< tt) hi in
+    let e : 2 * 2 ^ h % 2 ^ 64 ≡ 2 * 2 ^ h = mod-eq_of_lt (omega arith) in
+    rw (good, e, add-one, pow-suc) (omega arith)
 
 pub tree_lawful : (h f : ℕ) → Lawful (tree h f)
 tree_lawful h f = usable_lawful (tree_sized h f) (tree_rule (2 ^ (h + 1) - 1) h f)

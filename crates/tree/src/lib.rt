@@ -1,8 +1,8 @@
 // The tree: binary and complete, with a second link on each edge from a node above the fat depth.
 #![tactic(auto)]
 
-ghost use Rattle.std.specs.Prelude.{◌≡◌};
-ghost use Rattle.tree.specs.Trees.{tree, tree_sized};
+ghost use Rattle.std.specs.Prelude.{◌≡◌, ◌%◌, ◌==◌, ◌||◌, nat_lt};
+ghost use Rattle.tree.specs.Trees.{depth, tree, tree_sized};
 ghost use Rattle.tree.specs.TreeLaws.{tree_lawful};
 ghost use Rattle.network.proofs.Consequences.{bounds_of, follows_of};
 
@@ -23,7 +23,15 @@ impl Tree {
     fn is_usable(&self) -> bool
         ensures { result ≡ tree_sized self.now.height self.now.fat }
     {
-        1 <= self.height && self.height <= 5 && self.fat <= self.height
+        (1..=5).contains(&self.height) && self.fat <= self.height
+    }
+
+    // Whether an edge down from node `upper` has a link at port `p`: the odd ports are second links, there only above the
+    // fat depth.
+    fn is_joined(&self, upper: usize, p: usize) -> bool
+        ensures { result ≡ (p % 2 == 0 || nat_lt (depth upper) self.now.fat) }
+    {
+        p % 2 == 0 || depth_of(upper) < self.fat
     }
 }
 
@@ -36,16 +44,13 @@ impl Routing for Tree {
 
     ghost follows = { λ x. follows_of (tree x.height x.fat) (tree_lawful x.height x.fat) };
 
+    // The four numbers are kept as plain `if`s, since `then_some(..).unwrap_or(0)` says the same at more length, and works
+    // out the number first, which would overflow at a height that is not usable.
     fn nodes(&self) -> usize {
-        if !self.is_usable() {
-            return 0;
-        }
-        match self.height {
-            1 => 3,
-            2 => 7,
-            3 => 15,
-            4 => 31,
-            _ => 63,
+        if self.is_usable() {
+            (2 << self.height) - 1
+        } else {
+            0
         }
     }
 
@@ -69,18 +74,10 @@ impl Routing for Tree {
         }
         if p < 2 {
             let up = parent_of(n);
-            if n > 0 && (p == 0 || depth_of(up) < self.fat) {
-                Some(up)
-            } else {
-                None
-            }
+            (n > 0 && self.is_joined(up, p)).then_some(up)
         } else {
             let child = if p < 4 { 2 * n + 1 } else { 2 * n + 2 };
-            if child < nodes && (p % 2 == 0 || depth_of(n) < self.fat) {
-                Some(child)
-            } else {
-                None
-            }
+            (child < nodes && self.is_joined(n, p)).then_some(child)
         }
     }
 

@@ -9,7 +9,7 @@ pub(crate) fn parent_of(n: usize) -> usize
     n.saturating_sub(1) / 2
 }
 
-// The depth of node `n`.
+// The depth of node `n`. Kept as a table, since `ilog2` would need a bound on `n`, a sum and a cast.
 pub(crate) fn depth_of(n: usize) -> usize
     ensures { result ≡ depth n }
 {

@@ -17,30 +17,22 @@ impl Labelling {
         requires { label < self.now.count }
         ensures { result ≡ slice_index self.now.positions label }
     {
-        self.positions[label] as usize
+        usize::from(self.positions[label])
     }
 
     // The label at `position`, or 0 where there is none.
     pub(crate) fn label_at(&self, position: usize) -> usize
         ensures { result ≡ label_of self.now.positions self.now.count position }
     {
-        let mut found = 0;
-        for label in 0..self.count {
-            if self.positions[label] as usize == position {
-                found = label;
-            }
-        }
-        found
+        (0..self.count)
+            .find(|&label| self.position_of(label) == position)
+            .unwrap_or(0)
     }
 
     // The position of `label`, or none where there is no such label.
     pub fn position(&self, label: usize) -> Option<usize>
         ensures { result ≡ (if nat_lt label self.now.count then Some (slice_index self.now.positions label) else None) }
     {
-        if label < self.count {
-            Some(self.position_of(label))
-        } else {
-            None
-        }
+        (label < self.count).then(|| self.position_of(label))
     }
 }

@@ -1,57 +1,71 @@
 // The making of a labelling from bytes.
-ghost use Rattle.std.specs.Prelude.{◌≡◌, ℕ, ◌<◌, ◌≤◌, length, MatchOption, ◌≢◌, slice_index};
-ghost use Rattle.relabelling.specs.Labels.{Counted, WithinBelow, OnceBelow, Within, Once, Outsider, Repeat, Listed, Labelled};
+ghost use Rattle.std.specs.Prelude.{◌≡◌, ℕ, ◌<◌, length, MatchOption, MatchResult, ◌≢◌, slice_index};
+ghost use Rattle.relabelling.specs.Labels.{Counted, Within, Once, Refused, Listed, Labelled};
 
 use crate::LabellingRefusal;
 use crate::labelling::Labelling;
 
-// The first label whose position is not under the number of labels.
-fn first_outside(bytes: &[u8]) -> Option<usize>
-    ensures { MatchOption result (Within bytes.now) (λ i. Outsider bytes.now i) }
+// There are 2 to 64 bytes.
+fn check_count(bytes: &[u8]) -> Result<(), LabellingRefusal>
+    ensures { MatchResult result (λ _. Counted bytes.now) (Refused bytes.now) }
 {
-    for (label, position) in bytes.iter().enumerate() {
-        if *position as usize >= bytes.len() {
-            return Some(label);
-        }
+    let count = bytes.len();
+    if (2..=64).contains(&count) {
+        Ok(())
+    } else {
+        Err(LabellingRefusal::Count { count })
     }
-    None
 }
 
-// The label before `second` that has the same position.
+// Each position is less than the number of labels. It is asked of bytes that passed the check before, since a refusal says
+// so; `check_once` and `listing` likewise.
+fn check_within(bytes: &[u8]) -> Result<(), LabellingRefusal>
+    requires { Counted bytes.now }
+    ensures { MatchResult result (λ _. Within bytes.now) (Refused bytes.now) }
+{
+    for (label, &position) in bytes.iter().enumerate() {
+        let position = usize::from(position);
+        if position >= bytes.len() {
+            return Err(LabellingRefusal::Outside { label, position });
+        }
+    }
+    Ok(())
+}
+
+// The first label before `second` that has the same position.
 fn same_before(bytes: &[u8], second: usize) -> Option<usize>
     requires { second < length bytes.now }
     ensures { MatchOption result ((i : ℕ) → i < second → slice_index bytes.now i ≢ slice_index bytes.now second) (λ i. (i < second) × (slice_index bytes.now i ≡ slice_index bytes.now second)) }
 {
-    for first in 0..second {
-        if bytes[first] == bytes[second] {
-            return Some(first);
-        }
-    }
-    None
+    bytes[..second]
+        .iter()
+        .position(|before| *before == bytes[second])
 }
 
-// The first label whose position an earlier label has, after that one.
-fn first_repeat(bytes: &[u8]) -> Option<(usize, usize)>
-    ensures { MatchOption result (Once bytes.now) (λ x. Repeat bytes.now x.0 x.1) }
+// No position stands twice. A loop over the second label, since the answer is both.
+fn check_once(bytes: &[u8]) -> Result<(), LabellingRefusal>
+    requires counted { Counted bytes.now }
+    requires within { Within bytes.now }
+    ensures { MatchResult result (λ _. Once bytes.now) (Refused bytes.now) }
 {
     for second in 0..bytes.len() {
         if let Some(first) = same_before(bytes, second) {
-            return Some((first, second));
+            return Err(LabellingRefusal::Repeated { first, second });
         }
     }
-    None
+    Ok(())
 }
 
-// The labelling of bytes that passed all three questions.
+// The labelling of bytes that passed all three checks.
 fn listing(bytes: &[u8]) -> Labelling
-    requires { (Counted bytes.now) × ((Within bytes.now) × (Once bytes.now)) }
+    requires counted { Counted bytes.now }
+    requires within { Within bytes.now }
+    requires once { Once bytes.now }
     ensures { Listed bytes.now result }
 {
     let count = bytes.len();
     let mut positions = [0; 64];
-    for label in 0..count {
-        positions[label] = bytes[label];
-    }
+    positions[..count].copy_from_slice(bytes);
     Labelling { count, positions }
 }
 
@@ -61,19 +75,9 @@ impl Labelling {
     pub fn new(bytes: &[u8]) -> Result<Labelling, LabellingRefusal>
         ensures { Labelled bytes.now result }
     {
-        let count = bytes.len();
-        if count < 2 || count > 64 {
-            return Err(LabellingRefusal::Count { count });
-        }
-        if let Some(label) = first_outside(bytes) {
-            return Err(LabellingRefusal::Outside {
-                label,
-                position: bytes[label] as usize,
-            });
-        }
-        if let Some((first, second)) = first_repeat(bytes) {
-            return Err(LabellingRefusal::Repeated { first, second });
-        }
+        check_count(bytes)?;
+        check_within(bytes)?;
+        check_once(bytes)?;
         Ok(listing(bytes))
     }
 }

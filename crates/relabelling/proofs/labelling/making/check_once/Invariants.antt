@@ -1,5 +1,5 @@
 use Rattle.relabelling.specs.Labels.{OnceBelow}
-use Rattle.relabelling.proofs.labelling.making.first_repeat.Given as goal
+use Rattle.relabelling.proofs.labelling.making.check_once.Given as goal
 
 abbrev pub invariant-loop-second : goal.invariant-loop-second
 invariant-loop-second l = OnceBelow l.second l.bytes
