@@ -1,32 +1,12 @@
 -- The search for the oldest packet. Assumes nothing.
-use Rattle.std.specs.Prelude.{◌≡◌, ℕ, ◌+◌, ◌<◌, ◌≤◌, true, false, cond, List, [], ◌∷◌, length, drop, nat_lt, slice_index_or, refl}
-use Rattle.std.proofs.Common.{sym, ap, subst, ◌∙◌, ⊎_elim, arith, below_more}
-use Rattle.std.proofs.lemmas.List.{at_drop_more, at_drop_all, drop_more, length-drop}
+use Rattle.std.specs.Prelude.{◌≡◌, ℕ, ◌+◌, ◌<◌, ◌≤◌, cond, List, [], ◌∷◌, length, drop, nat_lt, slice_index_or, refl}
+use Rattle.std.proofs.Common.{sym, ap, subst, ⊎_elim, arith, below_more}
+use Rattle.std.proofs.lemmas.List.{drop_more, length-drop}
 use Rattle.std.proofs.lemmas.Bool.{cond-true, cond-false, ltb-true, ltb-false, cases_Bool}
 use Rattle.arbiter.specs.declared.entry.Entry.{Entry}
 use Rattle.arbiter.specs.Proper.{no_entry, packet_at}
 use Rattle.arbiter.specs.Rule.{Exists}
 use Rattle.arbiter.specs.Oldest.{oldest, oldest_from, oldest_place, NoneOlder}
-
--- what is left from the place i on, with the best place so far
-abbrev pub left : List Entry → ℕ → ℕ → ℕ
-left es best i = oldest_from best (packet_at es best) i (drop i es)
-
--- one turn of the loop
-left_turn : (es : List Entry) (best i : ℕ) → i < length es
-    → left es best i ≡ cond (nat_lt (packet_at es i) (packet_at es best)) (left es i (i + 1)) (left es best (i + 1))
-left_turn es best i h = at_drop_more (oldest_from best (packet_at es best) i) es i no_entry h
-
-pub older_here : (es : List Entry) (best i : ℕ) → i < length es → left es best i ≡ oldest_place es → true ≡ nat_lt (packet_at es i) (packet_at es best)
-    → left es i (i + 1) ≡ oldest_place es
-older_here es best i h inv e = sym (left_turn es best i h ∙ cond-true (nat_lt (packet_at es i) (packet_at es best)) (left es i (i + 1)) (left es best (i + 1)) (sym e)) ∙ inv
-
-pub older_later : (es : List Entry) (best i : ℕ) → i < length es → left es best i ≡ oldest_place es → false ≡ nat_lt (packet_at es i) (packet_at es best)
-    → left es best (i + 1) ≡ oldest_place es
-older_later es best i h inv e = sym (left_turn es best i h ∙ cond-false (nat_lt (packet_at es i) (packet_at es best)) (left es i (i + 1)) (left es best (i + 1)) (sym e)) ∙ inv
-
-pub oldest_all : (es : List Entry) (best i : ℕ) → length es ≤ i → left es best i ≡ oldest_place es → best ≡ oldest_place es
-oldest_all es best i h inv = sym (at_drop_all (oldest_from best (packet_at es best) i) es i h) ∙ inv
 
 -- the best of the places below n
 record Best (es : List Entry) (n best : ℕ) : Type 0 where

@@ -1,5 +1,5 @@
 -- The lists that an arbiter answers. Assumes nothing.
-use Rattle.std.specs.Prelude.{ℕ, ◌<◌, ◌≤◌, Bool, ◌&&◌, List, [], ◌∷◌, length, Some, None, Option, nat_lt, slice_index_or}
+use Rattle.std.specs.Prelude.{ℕ, ◌<◌, ◌≤◌, List, [], ◌∷◌, length, slice_index_or}
 use Rattle.std.specs.List.{AllByRecursion}
 use Rattle.arbiter.specs.declared.entry.Entry.{Entry}
 
@@ -38,8 +38,3 @@ pub record Proper (link : ℕ) (es : List Entry) : Type 0 where
   pub some : 1 ≤ length es
   pub few : length es ≤ buffer_limit
   pub ordered : Ordered es
-
--- The test of one buffer number: under 2,048, and above the one before it, if there is one.
-abbrev pub follows : Option ℕ → ℕ → Bool
-follows None b = nat_lt b buffer_limit
-follows (Some a) b = nat_lt a b && nat_lt b buffer_limit

@@ -1,5 +1,5 @@
 -- The arbiter that goes round the buffers. Assumes nothing.
-use Rattle.std.specs.Prelude.{◌≡◌, ℕ, ◌+◌, ◌<◌, ◌≤◌, Bool, true, cond, ◌≢◌, ◌⊎◌, List, [], ◌∷◌, length, Some, None, Option, nat_lt, slice_index_or, slice_set}
+use Rattle.std.specs.Prelude.{◌≡◌, ℕ, ◌<◌, ◌≤◌, Bool, true, ◌≢◌, ◌⊎◌, List, length, Some, None, Option, unwrap_or, nat_lt, position, slice_index_or, slice_set}
 use Rattle.arbiter.specs.declared.entry.Entry.{Entry}
 use Rattle.arbiter.specs.declared.rotating.Rotating.{Rotating}
 use Rattle.arbiter.specs.Proper.{buffer_at}
@@ -11,10 +11,9 @@ abbrev pub above : Option ℕ → ℕ → Bool
 above None b = true
 above (Some a) b = nat_lt a b
 
--- The place of the first entry above a buffer, where the list's first place is i; 0 where there is none.
-abbrev pub first_above : Option ℕ → ℕ → List Entry → ℕ
-first_above last i [] = 0
-first_above last i (e ∷ es) = cond (above last e.buffer) i (first_above last (i + 1) es)
+-- The place of the first entry above a buffer; 0 where there is none.
+abbrev pub first_above : Option ℕ → List Entry → ℕ
+first_above last es = unwrap_or (position (λ e. above last e.buffer) es) 0
 
 -- The buffer granted last on a link, none where the link was never granted.
 abbrev pub last_on : Rotating → ℕ → Option ℕ
@@ -26,7 +25,7 @@ remember state link b = record { last = slice_set state.last link (Some b) }
 
 -- The first entry above the buffer granted last on this link, else the first place.
 abbrev pub turn : Rotating → ℕ → List Entry → ℕ
-turn state link es = first_above (last_on state link) 0 es
+turn state link es = first_above (last_on state link) es
 
 -- The granted buffer is remembered.
 abbrev pub rotating : Rule Rotating

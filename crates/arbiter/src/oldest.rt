@@ -1,5 +1,5 @@
 // The arbiter that grants the oldest packet.
-ghost use Rattle.std.specs.Prelude.{◌≡◌, ◌<◌, length, IfSome, nat_lt};
+ghost use Rattle.std.specs.Prelude.{◌≡◌, IfSome};
 ghost use Rattle.arbiter.specs.Rule.{Granted};
 ghost use Rattle.arbiter.specs.Oldest.{oldest, oldest_place, NoneOlder};
 ghost use Rattle.arbiter.specs.Age.{oldest_exists};
@@ -16,35 +16,22 @@ impl Arbiter for Oldest {
     ghost exists = { oldest_exists };
 
     // Where it grants, no listed packet is older than the granted one, and of equals none stands earlier.
+    #[tactic(auto, using(crate::specs::Age::oldest_first))]
     fn grant(&mut self, link: usize, entries: &[Entry]) -> Option<usize>
         ensures granted { Granted oldest self.old self.new link entries.now result }
         ensures none_older { IfSome result (NoneOlder entries.now) }
     {
-        if is_proper(link, entries) {
-            Some(oldest_place(entries))
-        } else {
-            None
-        }
+        is_proper(link, entries).then(|| oldest_place(entries))
     }
 }
 
 // The place of the oldest packet, the first of equals; 0 in an empty list.
 fn oldest_place(entries: &[Entry]) -> usize
-    ensures place { result ≡ oldest_place entries.now }
-    ensures none_older { 0 < length entries.now → NoneOlder entries.now result }
+    ensures { result ≡ oldest_place entries.now }
 {
-    let mut best = 0;
-    for (i, entry) in entries.iter().enumerate() {
-        if is_older(entry.packet, entries[best].packet) {
-            best = i;
-        }
-    }
-    best
-}
-
-// Whether a packet is older than another.
-fn is_older(packet: usize, other: usize) -> bool
-    ensures { result ≡ nat_lt packet other }
-{
-    packet < other
+    entries
+        .iter()
+        .enumerate()
+        .min_by_key(|(_, entry)| entry.packet)
+        .map_or(0, |(place, _)| place)
 }

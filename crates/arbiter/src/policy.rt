@@ -24,6 +24,7 @@ impl Arbiter for Policy {
       | Oldest a ↦ oldest_exists a
     ] };
 
+    // Kept as a match of one method: it binds each kind at its own type, and a macro for it would be longer.
     fn grant(&mut self, link: usize, entries: &[Entry]) -> Option<usize> {
         match self {
             Policy::Lowest(arbiter) => arbiter.grant(link, entries),

@@ -1,6 +1,6 @@
 // Which lists an arbiter answers.
-ghost use Rattle.std.specs.Prelude.{◌≡◌, Decides};
-ghost use Rattle.arbiter.specs.Proper.{Proper, Ordered, follows};
+ghost use Rattle.std.specs.Prelude.{◌≡◌, nat_lt, Decides};
+ghost use Rattle.arbiter.specs.Proper.{Proper, Ordered, buffer_limit};
 
 use crate::Entry;
 
@@ -18,26 +18,23 @@ pub fn is_proper(link: usize, entries: &[Entry]) -> bool
     link < LINKS && !entries.is_empty() && entries.len() <= BUFFERS && is_ordered(entries)
 }
 
-// Whether the buffer numbers rise strictly and are in range.
+// Whether the buffer numbers rise strictly and are in range. They are in range where the last is, which is the highest.
 fn is_ordered(entries: &[Entry]) -> bool
     ensures { Decides result (Ordered entries.now) }
 {
-    let mut last = None;
-    for entry in entries {
-        if !may_follow(last, entry.buffer) {
-            return false;
-        }
-        last = Some(entry.buffer);
-    }
-    true
+    entries.is_sorted_by(is_below) && entries.last().is_none_or(is_in_range)
 }
 
-// Whether `buffer` is in range and above `last`, the buffer before it in the list, if there is one.
-fn may_follow(last: Option<usize>, buffer: usize) -> bool
-    ensures { result ≡ follows last buffer }
+// Whether an entry's buffer is below that of the next.
+fn is_below(entry: &Entry, next: &Entry) -> bool
+    ensures { result ≡ nat_lt entry.now.buffer next.now.buffer }
 {
-    match last {
-        Some(below) => below < buffer && buffer < BUFFERS,
-        None => buffer < BUFFERS,
-    }
+    entry.buffer < next.buffer
+}
+
+// Whether an entry's buffer number is one that a buffer can have.
+fn is_in_range(entry: &Entry) -> bool
+    ensures { result ≡ nat_lt entry.now.buffer buffer_limit }
+{
+    entry.buffer < BUFFERS
 }

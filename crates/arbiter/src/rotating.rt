@@ -54,7 +54,7 @@ impl Arbiter for Rotating {
     }
 }
 
-// Nothing is remembered for any link.
+// Nothing is remembered for any link. Kept beside `new`, whose two clauses then prove with no answer.
 fn nothing_granted() -> [Option<u16>; LINKS]
     ensures state { result ≡ replicate link_limit None }
     ensures all_none { (link : ℕ) → slice_index_or result link None ≡ None }
@@ -64,26 +64,21 @@ fn nothing_granted() -> [Option<u16>; LINKS]
 
 // The place of the first entry above `last`, and 0 where there is none.
 fn first_above(last: Option<u16>, entries: &[Entry]) -> usize
-    ensures place { result ≡ first_above last 0 entries.now }
+    ensures place { result ≡ first_above last entries.now }
     ensures within { 0 < length entries.now → result < length entries.now }
     ensures none_between { Ordered entries.now → NoneBetween last entries.now result }
 {
-    for (i, entry) in entries.iter().enumerate() {
-        if is_above(entry.buffer, last) {
-            return i;
-        }
-    }
-    0
+    entries
+        .iter()
+        .position(|entry| is_above(entry.buffer, last))
+        .unwrap_or(0)
 }
 
 // Whether a buffer is above `last`; any is above none.
 fn is_above(buffer: usize, last: Option<u16>) -> bool
     ensures { result ≡ above last buffer }
 {
-    match last {
-        Some(below) => buffer > usize::from(below),
-        None => true,
-    }
+    last.is_none_or(|below| buffer > usize::from(below))
 }
 
 // The buffer at a place of a list in order, whose buffer numbers are small.

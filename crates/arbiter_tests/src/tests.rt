@@ -1,4 +1,5 @@
 use arbiter::{Arbiter, Entry, Lowest, Oldest, Policy, Rotating, is_proper};
+use std::array;
 use std::process::Abort;
 
 // A question for a link about the entries from a place up to another, and the answer that it should get.
@@ -54,49 +55,39 @@ const OLDEST: [Case; 6] = [
     (447, 1, 4, Some(0)),
 ];
 
-fn entry(buffer: usize, packet: usize) -> Entry {
-    Entry { buffer, packet }
-}
-
 // The lists of the tables are parts of this one. The first six entries rise; then come an equal neighbour, a fall, and
 // two buffers out of range.
 fn listed() -> [Entry; 10] {
     [
-        entry(3, 30),
-        entry(4, 20),
-        entry(5, 40),
-        entry(6, 20),
-        entry(7, 10),
-        entry(2047, 10),
-        entry(2047, 9),
-        entry(59, 8),
-        entry(2048, 7),
-        entry(2049, 6),
+        (3, 30),
+        (4, 20),
+        (5, 40),
+        (6, 20),
+        (7, 10),
+        (2047, 10),
+        (2047, 9),
+        (59, 8),
+        (2048, 7),
+        (2049, 6),
     ]
+    .map(|(buffer, packet)| Entry { buffer, packet })
 }
 
 // Puts the questions to one arbiter, in their order.
 fn replay<A: Arbiter>(rt: &impl Abort, arbiter: &mut A, cases: &[Case]) {
     let entries = listed();
-    for (link, from, to, answer) in cases {
-        assert!(rt; *from <= *to && *to <= 10);
-        assert_eq!(rt; arbiter.grant(*link, &entries[*from..*to]), *answer);
+    for &(link, from, to, answer) in cases {
+        assert!(rt; from <= to && to <= 10);
+        assert_eq!(rt; arbiter.grant(link, &entries[from..to]), answer);
     }
 }
 
 // The test of a list answers yes or no to each question alike.
 fn tested(rt: &impl Abort, cases: &[Case], proper: bool) {
     let entries = listed();
-    for (link, from, to, _) in cases {
-        assert!(rt; *from <= *to && *to <= 10);
-        assert_eq!(rt; is_proper(*link, &entries[*from..*to]), proper);
-    }
-}
-
-// Gives each entry its own place for a buffer.
-fn number(entries: &mut [Entry]) {
-    for (i, e) in entries.iter_mut().enumerate() {
-        e.buffer = i;
+    for &(link, from, to, _) in cases {
+        assert!(rt; from <= to && to <= 10);
+        assert_eq!(rt; is_proper(link, &entries[from..to]), proper);
     }
 }
 
@@ -110,9 +101,9 @@ fn proper_lists(rt: HostRuntime) {
 // Every buffer asks; with one more there is no proper list.
 #[test]
 fn longest_list(rt: HostRuntime) {
-    let mut all = [entry(0, 7); 2049];
-    number(&mut all);
-    assert!(rt; is_proper(447, &all[0..2048]));
+    let all: [Entry; 2049] = array::from_fn(|buffer| Entry { buffer, packet: 7 });
+    let longest = all.get(..2048);
+    assert!(rt; longest.is_some_and(|entries| is_proper(447, entries)));
     assert!(rt; !is_proper(447, &all));
 }
 
