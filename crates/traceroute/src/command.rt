@@ -19,25 +19,24 @@ pub struct Command {
 pub fn number(word: &str) -> Option<usize>
     ensures { Reads word.now result }
 {
-    match word.parse::<usize>() {
-        Ok(number) => Some(number),
-        Err(_) => None,
-    }
+    word.parse().ok()
 }
 
 // The command of a shape's name and its numbers: the sizes, then the two nodes. None where there are fewer or more.
 pub fn command_of(name: ShapeName, numbers: &[usize]) -> Option<Command>
     ensures { result ≡ as_command name numbers.now }
 {
-    let sizes = name.sizes();
-    if numbers.len() != sizes + 2 {
-        return None;
-    }
+    // `ShapeName::shape` takes two sizes, and a line and a ring leave the second out.
+    let (a, b, start, end) = match (name.sizes(), numbers) {
+        (1, &[a, start, end]) => (a, 0, start, end),
+        (2, &[a, b, start, end]) => (a, b, start, end),
+        _ => return None,
+    };
     Some(Command {
         name,
-        shape: name.shape(numbers[0], numbers[1]),
-        start: numbers[sizes],
-        end: numbers[sizes + 1],
+        shape: name.shape(a, b),
+        start,
+        end,
     })
 }
 
@@ -47,11 +46,9 @@ fn numbers(heap: Global, words: &[String]) -> Result<Vec<usize>, WordError>
     ensures { Numbered (texts words.now) result }
 {
     let mut all = Vec::new(heap);
-    for place in 1..words.len() {
-        match number(words[place].as_str()) {
-            Some(number) => all.push(number)?,
-            None => return Err(WordError::NoNumber { place }),
-        }
+    for (before, word) in words[1..].iter().enumerate() {
+        let place = before + 1;
+        all.push(number(word).ok_or(WordError::NoNumber { place })?)?;
     }
     Ok(all)
 }
@@ -60,10 +57,7 @@ fn numbers(heap: Global, words: &[String]) -> Result<Vec<usize>, WordError>
 fn first_named(words: &[String]) -> Option<ShapeName>
     ensures { FirstNamed (texts words.now) result }
 {
-    if words.is_empty() {
-        return None;
-    }
-    shape_named(words[0].as_str())
+    words.first().and_then(|word| shape_named(word))
 }
 
 // The command that the words are: the name of a shape, its sizes, and the two nodes; or why they are none. It is asked
@@ -71,16 +65,9 @@ fn first_named(words: &[String]) -> Option<ShapeName>
 pub fn parse(heap: Global, words: &[String]) -> Result<Command, WordError>
     ensures { Parsed (texts words.now) result }
 {
-    let Some(name) = first_named(words) else {
-        return Err(WordError::NoShape);
-    };
-    match numbers(heap, words) {
-        Ok(numbers) => match command_of(name, &numbers) {
-            Some(command) => Ok(command),
-            None => Err(WordError::WrongCount {
-                sizes: name.sizes(),
-            }),
-        },
-        Err(error) => Err(error),
-    }
+    let name = first_named(words).ok_or(WordError::NoShape)?;
+    let numbers = numbers(heap, words)?;
+    command_of(name, &numbers).ok_or_else(|| WordError::WrongCount {
+        sizes: name.sizes(),
+    })
 }

@@ -18,7 +18,7 @@ pub enum ShapeName {
     Cylinder,
 }
 
-// The shape that a word names, if any.
+// The shape that a word names, if any. No `FromStr`, whose error would have nothing to say.
 pub fn shape_named(word: &str) -> Option<ShapeName>
     ensures { Named word.now result }
 {

@@ -1,13 +1,15 @@
 // Why a command has no route.
 use crate::shape_name::ShapeName;
-use std::error::Error;
-use std::fmt;
+use thiserror::Error;
 
 // The sizes make a network that is unusable, or a node is not one of its nodes, or memory is out.
-#[derive(Clone, Copy, PartialEq, Eq, Debug)]
+#[derive(Clone, Copy, PartialEq, Eq, Debug, Error)]
 pub enum TraceError {
+    #[error("{}", size_rule(*.name))]
     Unusable { name: ShapeName },
+    #[error("{node} is no node: the network has {nodes} nodes, counted from 0")]
     NoNode { node: usize, nodes: usize },
+    #[error("out of memory")]
     OutOfMemory,
 }
 
@@ -23,18 +25,3 @@ fn size_rule(name: ShapeName) -> &'static str {
             "a cylinder has a ring of 3 or more, a line of 2 or more and at most 64 nodes",
     }
 }
-
-impl fmt::Display for TraceError {
-    fn fmt<W: fmt::Write>(&self, f: &mut fmt::Formatter<W>) -> fmt::Result {
-        match *self {
-            TraceError::Unusable { name } => f.write_str(size_rule(name)),
-            TraceError::NoNode { node, nodes } => write!(
-                f,
-                "{node} is no node: the network has {nodes} nodes, counted from 0"
-            ),
-            TraceError::OutOfMemory => f.write_str("out of memory"),
-        }
-    }
-}
-
-impl Error for TraceError {}

@@ -15,16 +15,15 @@ pub fn traced(heap: Global, command: &Command) -> Result<Vec<RouteStep>, TraceEr
     if nodes == 0 {
         return Err(TraceError::Unusable { name: command.name });
     }
-    match route(heap, &command.shape, command.start, command.end) {
-        Ok(steps) => Ok(steps),
-        Err(RouteError::NoStart) => Err(TraceError::NoNode {
+    route(heap, &command.shape, command.start, command.end).map_err(|error| match error {
+        RouteError::NoStart => TraceError::NoNode {
             node: command.start,
             nodes,
-        }),
-        Err(RouteError::NoEnd) => Err(TraceError::NoNode {
+        },
+        RouteError::NoEnd => TraceError::NoNode {
             node: command.end,
             nodes,
-        }),
-        Err(RouteError::OutOfMemory) => Err(TraceError::OutOfMemory),
-    }
+        },
+        RouteError::OutOfMemory => TraceError::OutOfMemory,
+    })
 }

@@ -1,71 +1,38 @@
 // Commands from their words to their routes, and the sentences for those that are none.
 use std::alloc::{AllocError, Global};
+use std::error::Error;
+use std::fmt::Debug;
 use std::process::Abort;
 use std::test::Fail;
-use traceroute::{ShapeName, TraceError, WordError, parse, traced};
+use traceroute::{Command, ShapeName, TraceError, WordError, parse, traced};
 
 // The words of a line.
 fn words_of(heap: Global, line: &str) -> Result<Vec<String>, AllocError> {
-    let mut words = Vec::new(heap);
-    for word in line.split_whitespace() {
-        words.push(String::from_str(heap, word)?)?;
-    }
-    Ok(words)
+    line.split_whitespace()
+        .map(|word| String::from_str(heap, word))
+        .try_collect(heap)
 }
 
-fn check_hops(rt: &impl Abort, heap: Global, line: &str, hops: usize) -> Result<(), Fail> {
+// The command that a line is.
+fn command_of(heap: Global, line: &str) -> Result<Command, Fail> {
     let words = words_of(heap, line)?;
-    match parse(heap, &words) {
-        Ok(command) => match traced(heap, &command) {
-            Ok(steps) => {
-                assert_eq!(rt; steps.len(), hops);
-                Ok(())
-            },
-            Err(_) => Err(Fail::new("there is a route")),
-        },
-        Err(_) => Err(Fail::new("the words are a command")),
-    }
+    Ok(parse(heap, &words)?)
 }
 
-fn check_words(
+// The answer is this error, which this sentence tells.
+fn check_refused<T: Drop, E: Error + PartialEq + Debug + Drop>(
     rt: &impl Abort,
     heap: Global,
-    line: &str,
-    error: WordError,
+    answer: Result<T, E>,
+    error: E,
     sentence: &str,
 ) -> Result<(), Fail> {
-    let words = words_of(heap, line)?;
-    match parse(heap, &words) {
-        Ok(_) => Err(Fail::new("the words are no command")),
-        Err(answer) => {
-            assert_eq!(rt; answer, error);
-            let told = answer.to_string(heap)?;
-            assert_eq!(rt; told.as_str(), sentence);
-            Ok(())
-        }
-    }
-}
-
-fn check_trace(
-    rt: &impl Abort,
-    heap: Global,
-    line: &str,
-    error: TraceError,
-    sentence: &str,
-) -> Result<(), Fail> {
-    let words = words_of(heap, line)?;
-    match parse(heap, &words) {
-        Ok(command) => match traced(heap, &command) {
-            Ok(_) => Err(Fail::new("there is no route")),
-            Err(answer) => {
-                assert_eq!(rt; answer, error);
-                let told = answer.to_string(heap)?;
-                assert_eq!(rt; told.as_str(), sentence);
-                Ok(())
-            }
-        },
-        Err(_) => Err(Fail::new("the words are a command")),
-    }
+    let Err(refusal) = answer else {
+        return Err(Fail::new("there is an error"));
+    };
+    assert_eq!(rt; refusal, error);
+    assert_eq!(rt; refusal.to_string(heap)?.as_str(), sentence);
+    Ok(())
 }
 
 #[test]
@@ -79,7 +46,8 @@ fn routes(rt: HostRuntime) -> Result<(), Fail> {
         ("line 64 63 +0", 63),
         ("ring 3 1 1", 0),
     ] {
-        check_hops(&rt, rt.alloc(), line, hops)?;
+        let command = command_of(rt.alloc(), line)?;
+        assert_eq!(rt; traced(rt.alloc(), &command)?.len(), hops);
     }
     Ok(())
 }
@@ -111,7 +79,9 @@ fn bad_words(rt: HostRuntime) -> Result<(), Fail> {
         ("line 8 1 2 3", WordError::WrongCount { sizes: 1 }, one),
         ("tree 2 1 0", WordError::WrongCount { sizes: 2 }, two),
     ] {
-        check_words(&rt, rt.alloc(), line, error, sentence)?;
+        let words = words_of(rt.alloc(), line)?;
+        let answer = parse(rt.alloc(), &words);
+        check_refused(&rt, rt.alloc(), answer, error, sentence)?;
     }
     Ok(())
 }
@@ -143,13 +113,10 @@ fn bad_sizes(rt: HostRuntime) -> Result<(), Fail> {
             "a cylinder has a ring of 3 or more, a line of 2 or more and at most 64 nodes",
         ),
     ] {
-        check_trace(
-            &rt,
-            rt.alloc(),
-            line,
-            TraceError::Unusable { name },
-            sentence,
-        )?;
+        let command = command_of(rt.alloc(), line)?;
+        let error = TraceError::Unusable { name };
+        let answer = traced(rt.alloc(), &command);
+        check_refused(&rt, rt.alloc(), answer, error, sentence)?;
     }
     Ok(())
 }
@@ -164,13 +131,10 @@ fn bad_nodes(rt: HostRuntime) -> Result<(), Fail> {
         ("ring 8 7 9", 9, nine),
         ("ring 8 9 9", 9, nine),
     ] {
-        check_trace(
-            &rt,
-            rt.alloc(),
-            line,
-            TraceError::NoNode { node, nodes },
-            sentence,
-        )?;
+        let command = command_of(rt.alloc(), line)?;
+        let error = TraceError::NoNode { node, nodes };
+        let answer = traced(rt.alloc(), &command);
+        check_refused(&rt, rt.alloc(), answer, error, sentence)?;
     }
     Ok(())
 }
