@@ -3,6 +3,7 @@
 
 mod answers;
 mod reading;
+mod row;
 mod table;
 
 pub use table::Table;

@@ -1,121 +1,66 @@
 // Reading a routing: each array is filled place by place.
-ghost use Rattle.std.specs.Prelude.{◌≡◌, ◌*◌, None};
+ghost use Rattle.std.specs.Prelude.{◌≡◌, ◌<◌};
 ghost use Rattle.std.specs.Option.{option_map};
-ghost use Rattle.network.specs.Laws.{NodeBound, HopBound};
-ghost use Rattle.table.specs.Stored.{channel_of, Filled, Stores, placed_link, placed_distance, placed_escape, placed_channel, placed_rank};
+ghost use Rattle.network.specs.Laws.{NodeBound};
+ghost use Rattle.table.specs.Stored.{StoresSizes, StoresArrays, channel_of};
 
-use crate::answers::{Answers, CHANNELS, CLASSES, Channel, LINKS, NODES, PAIRS, PORTS};
+use crate::answers::{Answers, Channel};
+use crate::row::Row;
 use network::{Hop, Routing};
 
-// The link that stands at place `k`.
-fn link_for<R: Routing>(routing: &R, k: usize) -> Option<usize>
-    ensures { result ≡ placed_link (R.meaning routing.now) k }
+// The channel of a hop in two bytes. Kept as a function since a `From` could not ask that the hop is small.
+fn channel_of(hop: Hop) -> Channel
+    requires { (hop.port < 6) × (hop.class < 2) }
+    ensures { result ≡ channel_of hop }
 {
-    routing.link(k / PORTS, k % PORTS)
-}
-
-// The distance that stands at place `k`.
-fn distance_for<R: Routing>(routing: &R, k: usize) -> usize
-    ensures { result ≡ placed_distance (R.meaning routing.now) k }
-{
-    routing.distance(k / NODES, k % NODES)
-}
-
-// The escape whose channel stands at place `k`.
-fn escape_for<R: Routing>(routing: &R, k: usize) -> Option<Hop>
-    ensures { result ≡ placed_escape (R.meaning routing.now) k }
-{
-    routing.escape(k / NODES, k % NODES)
-}
-
-// The rank that stands at place `k`.
-fn rank_for<R: Routing>(routing: &R, k: usize) -> usize
-    ensures { result ≡ placed_rank (R.meaning routing.now) k }
-{
-    routing.rank(k / CLASSES / PORTS, k / CLASSES % PORTS, k % CLASSES)
-}
-
-// A node in a byte.
-fn node_byte(node: Option<usize>) -> Option<u8>
-    requires { NodeBound node }
-    ensures { result ≡ node }
-{
-    match node {
-        Some(m) => Some(m as u8),
-        None => None,
+    Channel {
+        port: hop.port as u8,
+        class: hop.class as u8,
     }
 }
 
-// The channel of a hop in two bytes.
-fn channel_bytes(hop: Option<Hop>) -> Option<Channel>
-    requires { HopBound hop }
-    ensures { result ≡ option_map channel_of hop }
+// The link of node `n` by port `p`, with its node in a byte. The four functions that ask are apart, since each speaks of its
+// own method of the trait, and a closure with a cast would need clauses of its own.
+fn link_byte<R: Routing>(routing: &R, n: usize, p: usize) -> Option<u8>
+    ensures { result ≡ (R.meaning routing.now).link n p }
 {
-    match hop {
-        Some(h) => Some(Channel {
-            port: h.port as u8,
-            class: h.class as u8,
-        }),
-        None => None,
-    }
+    routing.link(n, p).map(|m| m as u8)
 }
 
-// The links of all nodes.
-fn links_of<R: Routing>(routing: &R) -> [Option<u8>; LINKS]
-    ensures { Filled (64 * 6) result None (placed_link (R.meaning routing.now)) }
+// The distance from `n` to `d` in a byte.
+fn distance_byte<R: Routing>(routing: &R, n: usize, d: usize) -> u8
+    ensures { result ≡ (R.meaning routing.now).distance n d }
 {
-    let mut links = [None; LINKS];
-    for k in 0..LINKS {
-        links[k] = node_byte(link_for(routing, k));
-    }
-    links
+    routing.distance(n, d) as u8
 }
 
-// The distances between all nodes.
-fn distances_of<R: Routing>(routing: &R) -> [u8; PAIRS]
-    ensures { Filled (64 * 64) result 0 (placed_distance (R.meaning routing.now)) }
+// The channel of the escape from `n` towards `d`.
+fn channel<R: Routing>(routing: &R, n: usize, d: usize) -> Option<Channel>
+    ensures { result ≡ option_map channel_of ((R.meaning routing.now).escape n d) }
 {
-    let mut distances = [0; PAIRS];
-    for k in 0..PAIRS {
-        distances[k] = distance_for(routing, k) as u8;
-    }
-    distances
+    routing.escape(n, d).map(channel_of)
 }
 
-// The channels of the escapes between all nodes.
-fn escapes_of<R: Routing>(routing: &R) -> [Option<Channel>; PAIRS]
-    ensures { Filled (64 * 64) result None (placed_channel (R.meaning routing.now)) }
+// The rank of the escape channel of class `e` on port `p` of node `n` in a byte.
+fn rank_byte<R: Routing>(routing: &R, n: usize, p: usize, e: usize) -> u8
+    ensures { result ≡ (R.meaning routing.now).rank n p e }
 {
-    let mut escapes = [None; PAIRS];
-    for k in 0..PAIRS {
-        escapes[k] = channel_bytes(escape_for(routing, k));
-    }
-    escapes
-}
-
-// The ranks of all escape channels.
-fn ranks_of<R: Routing>(routing: &R) -> [u8; CHANNELS]
-    ensures { Filled (64 * 6 * 2) result 0 (placed_rank (R.meaning routing.now)) }
-{
-    let mut ranks = [0; CHANNELS];
-    for k in 0..CHANNELS {
-        ranks[k] = rank_for(routing, k) as u8;
-    }
-    ranks
+    routing.rank(n, p, e) as u8
 }
 
 // All the answers of a routing.
 pub fn answers_of<R: Routing>(routing: &R) -> Answers
-    ensures { Stores (R.meaning routing.now) result }
+    ensures sizes { StoresSizes (R.meaning routing.now) result }
+    ensures arrays { StoresArrays (R.meaning routing.now) result }
 {
     Answers {
         nodes: routing.nodes(),
         ports: routing.ports(),
         classes: routing.classes(),
         ceiling: routing.ceiling(),
-        links: links_of(routing),
-        distances: distances_of(routing),
-        escapes: escapes_of(routing),
-        ranks: ranks_of(routing),
+        links: Row::filled(|n| Row::filled(|p| link_byte(routing, n, p))),
+        distances: Row::filled(|n| Row::filled(|d| distance_byte(routing, n, d))),
+        escapes: Row::filled(|n| Row::filled(|d| channel(routing, n, d))),
+        ranks: Row::filled(|n| Row::filled(|p| Row::filled(|e| rank_byte(routing, n, p, e)))),
     }
 }

@@ -1,26 +1,10 @@
 // A table is a routing.
-ghost use Rattle.std.specs.Prelude.{◌≡◌};
 ghost use Rattle.table.specs.Tables.{network_of};
-ghost use Rattle.table.specs.Stored.{channel_at};
 ghost use Rattle.table.specs.TableLaws.{table_lawful};
 ghost use Rattle.network.proofs.Consequences.{bounds_of, follows_of};
 
-use crate::answers::{CLASSES, Channel, NODES, PORTS};
 use crate::table::Table;
 use network::{Hop, Routing};
-
-impl Table {
-    // The channel of the escape from `n` towards `d`.
-    fn channel(&self, n: usize, d: usize) -> Option<Channel>
-        ensures { result ≡ channel_at self.now.answers n d }
-    {
-        if n < NODES && d < NODES {
-            self.answers.escapes[n * NODES + d]
-        } else {
-            None
-        }
-    }
-}
 
 impl Routing for Table {
     ghost meaning = { network_of };
@@ -48,37 +32,26 @@ impl Routing for Table {
     }
 
     fn link(&self, n: usize, p: usize) -> Option<usize> {
-        if n >= NODES || p >= PORTS {
-            return None;
-        }
-        match self.answers.links[n * PORTS + p] {
-            Some(next) => Some(next as usize),
-            None => None,
-        }
+        self.answers.links.cell(n, p)?.map(usize::from)
     }
 
     fn distance(&self, n: usize, d: usize) -> usize {
-        if n < NODES && d < NODES {
-            self.answers.distances[n * NODES + d] as usize
-        } else {
-            0
-        }
+        let hops = self.answers.distances.cell(n, d);
+        hops.copied().map_or(0, usize::from)
     }
 
     // The hop goes along the link of the channel's port.
     fn escape(&self, n: usize, d: usize) -> Option<Hop> {
-        let channel = self.channel(n, d)?;
-        let port = channel.port as usize;
-        let class = channel.class as usize;
+        let channel = self.answers.escapes.cell(n, d).copied()??;
+        let port = usize::from(channel.port);
+        let class = usize::from(channel.class);
         let next = self.link(n, port)?;
         Some(Hop { port, class, next })
     }
 
     fn rank(&self, n: usize, p: usize, e: usize) -> usize {
-        if n < NODES && p < PORTS && e < CLASSES {
-            self.answers.ranks[(n * PORTS + p) * CLASSES + e] as usize
-        } else {
-            0
-        }
+        let classes = self.answers.ranks.cell(n, p);
+        let rank = classes.and_then(|classes| classes.get(e));
+        rank.copied().map_or(0, usize::from)
     }
 }
