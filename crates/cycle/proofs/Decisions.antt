@@ -13,7 +13,7 @@ use Rattle.switch.specs.Cycle.{Snapshot, Visit, Decisions, requests, cons_some, 
 use Rattle.switch.proofs.Deciding.{length_visits}
 use Rattle.cycle.specs.declared.sizes.Sizes.{Sizes}
 use Rattle.cycle.specs.Measures.{Fits, start_of, visit_of}
-use Rattle.cycle.specs.Targets.{all_decisions, Decided}
+use Rattle.cycle.specs.Decided.{all_decisions, Decided}
 
 -- The visits from node n on; and those from port p of node n on.
 abbrev pub from_node : Sizes → ℕ → List Visit
@@ -49,7 +49,7 @@ all_visits net sizes fits =
 length_all : (sizes : Sizes) → length (from_node sizes 0) ≡ sizes.nodes * (sizes.ports + 1)
 length_all sizes = length_visits (sizes.ports + 1) (sizes.nodes - 0) 0 ∙ ap (λ (x : ℕ). x * (sizes.ports + 1)) (let e : sizes.nodes - 0 ≡ sizes.nodes = omega arith in e)
 
-visits_few : (net : Network) → Bounds net → (sizes : Sizes) → Fits net sizes → sizes.nodes * (sizes.ports + 1) ≤ 448
+pub visits_few : (net : Network) → Bounds net → (sizes : Sizes) → Fits net sizes → sizes.nodes * (sizes.ports + 1) ≤ 448
 visits_few net bounds sizes fits =
     let a = fits.measured.nodes_is in
     let b = fits.measured.ports_is in

@@ -1,3 +1,4 @@
+-- The lemmas of the crate.
 pub mod Fitting
 pub mod Locations
 pub mod Chaining

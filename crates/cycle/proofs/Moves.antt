@@ -1,44 +1,37 @@
 -- A pop and a push are a move of the definition. Assumes nothing.
-use Rattle.std.proofs.Common.{◌≡◌, ℕ, ◌+◌, ◌*◌, ◌<◌, ◌≤◌, Bool, ◌≢◌, List, [], ◌∷◌, ◌++◌, length, get_or, drop, set, Some, None, sym, refl, ap, ◌∙◌, subst, arith}
+use Rattle.std.proofs.Common.{◌≡◌, ℕ, ◌+◌, ◌*◌, ◌<◌, ◌≤◌, ◌≢◌, List, [], ◌∷◌, ◌++◌, length, get_or, drop, set, Some, None, Result, sym, ap, ◌∙◌, subst, arith}
 use Rattle.std.specs.List.{AllByRecursion, slice_get}
 use Rattle.std.proofs.lemmas.List.{drop_more, at_drop_more, at_drop_all}
 use Rattle.std.proofs.lemmas.Bool.{eq-eqb, ne_eqb}
+use Rattle.queue.specs.declared.full.Full.{Full}
 use Rattle.queue.specs.declared.packet.Packet.{Packet}
 use Rattle.queue.specs.declared.queues.Queues.{Queues}
 use Rattle.queue.specs.Contents.{contents as contents_in, Popped, Pushed}
 use Rattle.queue.proofs.Buffers.{getD_all_contents}
 use Rattle.queue.proofs.Frames.{run_below}
+use Rattle.queue.proofs.Lefts.{left_more, left_none}
 use Rattle.switch.specs.declared.grant.Grant.{Grant}
 use Rattle.switch.specs.Buffers.{Buffers, contents, enqueue}
 use Rattle.switch.specs.Cycle.{hopped, forward, move, moves}
 use Rattle.cycle.specs.declared.sizes.Sizes.{Sizes}
 use Rattle.cycle.specs.Measures.{buffers_in}
 use Rattle.cycle.specs.Moves.{Movable, AllMovable, Moved}
+use Rattle.cycle.proofs.Lookups.{contents_there}
 
 -- the slots of a buffer are in range
 pub slots_in_range : (b t depth n : ℕ) → b < t → t * depth ≤ n → b * depth + depth ≤ n
 slots_in_range b t depth n lt le = let r = run_below b t depth lt in omega arith
 
--- a list whose first element there is not
-nth_none : (xs : List Packet) → None ≡ slice_get xs 0 → xs ≡ []
-nth_none [] e = refl
-nth_none (x ∷ xs) e = let z : ◌≡◌ {A = ℕ} 0 1 = cc in absurd (let k : ⊥ = omega arith in k)
-
--- a list with its first element
-nth_some : (q : Packet) (xs : List Packet) → Some q ≡ slice_get xs 0 → xs ≡ q ∷ drop 1 xs
-nth_some q [] e = let z : ◌≡◌ {A = ℕ} 0 1 = cc in absurd (let k : ⊥ = omega arith in k)
-nth_some q (x ∷ xs) e = let k : x ≡ q = cc in ap (λ (y : Packet). y ∷ xs) k
-
 -- A pop from the buffer of a grant.
 module _ (sizes : Sizes) (old mid : Queues) (g : Grant) (movable : Movable sizes (buffers_in sizes old) g) where
   contents_is : contents (buffers_in sizes old) g.old ≡ contents_in old sizes.depth g.old
-  contents_is = getD_all_contents old sizes.depth sizes.buffers g.old movable.old_under
+  contents_is = sym (contents_there sizes old g.old movable.old_under)
 
   -- the buffer was empty
   pub moved_none : Popped old mid sizes.depth g.old None → Moved sizes old mid g
   unfolding move
   moved_none p =
-      let empty : contents_in old sizes.depth g.old ≡ [] = nth_none _ p.first in
+      let empty : contents_in old sizes.depth g.old ≡ [] = left_none _ 0 (sym p.first) in
       record {
         buffers_are =
             ap (buffers_in sizes) (p.none empty) ∙ sym (ap (forward sizes.buffers (buffers_in sizes old) g) (contents_is ∙ empty));
@@ -48,7 +41,7 @@ module _ (sizes : Sizes) (old mid : Queues) (g : Grant) (movable : Movable sizes
   -- the packet q was its first
   module _ (q : Packet) (p : Popped old mid sizes.depth g.old (Some q)) where
     first_is : contents (buffers_in sizes old) g.old ≡ q ∷ drop 1 (contents (buffers_in sizes old) g.old)
-    first_is = nth_some q (contents (buffers_in sizes old) g.old) (p.first ∙ ap (λ (xs : List Packet). slice_get xs 0) (sym contents_is))
+    first_is = left_more (contents (buffers_in sizes old) g.old) 0 q (sym (p.first ∙ ap (λ (xs : List Packet). slice_get xs 0) (sym contents_is)))
 
     left_is : buffers_in sizes mid ≡ set (buffers_in sizes old) g.old (drop 1 (contents (buffers_in sizes old) g.old))
     left_is = p.rest.all sizes.buffers ∙ ap (λ (xs : List Packet). set (buffers_in sizes old) g.old (drop 1 xs)) (sym contents_is)
@@ -75,7 +68,7 @@ module _ (sizes : Sizes) (old mid : Queues) (g : Grant) (movable : Movable sizes
           let f = ap (λ (bs : Buffers). length (contents bs g.new)) left_is in
           omega arith
 
-      pub moved_on : (r : Packet) → r ≡ hopped q → (new : Queues) (answer : Bool) → Pushed mid new sizes.depth g.new r answer → Moved sizes old new g
+      pub moved_on : (r : Packet) → r ≡ hopped q → (new : Queues) (answer : Result (Unit {0}) Full) → Pushed mid new sizes.depth g.new r answer → Moved sizes old new g
       unfolding move
       moved_on r is new answer pushed =
           let t = ne_eqb g.new sizes.buffers ne in

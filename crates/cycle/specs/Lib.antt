@@ -1,5 +1,7 @@
+-- The definitions that the contracts cite.
 pub mod Measures
 pub mod Chains
-pub mod Targets
+pub mod Plans
+pub mod Starts
+pub mod Decided
 pub mod Moves
-pub mod Scratches

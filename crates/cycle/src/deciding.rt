@@ -1,78 +1,58 @@
 // The decisions of a cycle.
-ghost use Rattle.std.specs.Prelude.{◌≡◌, ◌+◌, ◌*◌, ◌<◌, ◌≤◌, false, length, replicate};
+ghost use Rattle.std.specs.Prelude.{◌≡◌, ◌+◌, ◌*◌, ◌<◌, ◌≤◌, false, [], IfSome, length, replicate};
 ghost use Rattle.arbiter.specs.Rule.{Granted};
-ghost use Rattle.queue.specs.Contents.{Sound};
-ghost use Rattle.switch.specs.Cycle.{chosen, next_arbiter, requests as requests_of};
-ghost use Rattle.cycle.specs.Measures.{Fits, start_of, visit_of};
-ghost use Rattle.cycle.specs.Chains.{Stands};
-ghost use Rattle.cycle.specs.Scratches.{no_scratch};
-ghost use Rattle.cycle.specs.Targets.{listed_grant, OldUnder, Decided};
+ghost use Rattle.switch.specs.Cycle.{chosen, next_arbiter, requests};
+ghost use Rattle.cycle.specs.Measures.{visit_of};
+ghost use Rattle.cycle.specs.Starts.{network_in, snapshot, visit_in, requests_in};
+ghost use Rattle.cycle.specs.Decided.{Decided};
 
-use crate::requesting::requests;
-use crate::{Sizes, Standing};
+use crate::Start;
+use crate::visit::Visit;
 use arbiter::{Arbiter, Entry};
+use arrayvec::ArrayVec;
 use network::Routing;
-use queue::Queues;
 use switch::Grant;
 
 // What a cycle writes while it decides: which buffers have a grant, and the requests of one visit.
 #[derive(Clone, Drop)]
 pub struct Scratch {
     granted: [bool; 2048],
-    entries: [Entry; 2048],
-    targets: [usize; 2048],
+    entries: ArrayVec<Entry, 2048>,
 }
 
 impl Scratch {
     // Room for the largest network. What it holds before a cycle means nothing.
     pub fn new() -> Self
-        ensures { result ≡ no_scratch }
+        ensures granted { result.granted ≡ replicate 2048 false }
+        ensures entries { result.entries.items ≡ [] }
     {
         Scratch {
             granted: [false; 2048],
-            entries: [Entry {
-                buffer: 0,
-                packet: 0,
-            }; 2048],
-            targets: [0; 2048],
+            entries: ArrayVec::new(),
         }
     }
 }
 
-// One visit: the request that the arbiter grants, if there is one.
-fn visit<R: Routing, A: Arbiter>(
-    routing: &R,
-    arbiter: &mut A,
-    queues: &Queues,
-    sizes: Sizes,
-    standing: &Standing,
-    cycle: usize,
-    granted: &[bool],
-    entries: &mut [Entry],
-    targets: &mut [usize],
-    n: usize,
-    p: usize,
-) -> Option<Grant>
-    requires fits { Fits (R.meaning routing.now) sizes }
-    requires sound { Sound queues.now sizes.depth }
-    requires stands { Stands (R.meaning routing.now) standing.now }
-    requires flags { length granted.now ≡ sizes.buffers }
-    requires entries { sizes.buffers ≤ length entries.old }
-    requires targets { sizes.buffers ≤ length targets.old }
-    requires node { n < sizes.nodes }
-    requires port { p ≤ sizes.ports }
-    ensures answer { result ≡ chosen (R.meaning routing.now) A.rule (visit_of n p) arbiter.old (requests_of (start_of (R.meaning routing.now) sizes cycle queues.now) granted.now (visit_of n p)) }
-    ensures after { arbiter.new ≡ next_arbiter (R.meaning routing.now) A.rule (visit_of n p) arbiter.old (requests_of (start_of (R.meaning routing.now) sizes cycle queues.now) granted.now (visit_of n p)) }
-    ensures old { OldUnder sizes.buffers result }
-{
-    let len = requests(
-        routing, queues, sizes, standing, cycle, granted, entries, targets, n, p,
-    );
-    if len == 0 {
-        return None;
+impl<'a, 'b, 'c, R: Routing> Visit<'a, 'b, 'c, R> {
+    // The request that the arbiter grants, if there is one.
+    fn decide<A: Arbiter>(
+        &self,
+        arbiter: &mut A,
+        entries: &mut ArrayVec<Entry, 2048>,
+    ) -> Option<Grant>
+        ensures answer { result ≡ chosen (network_in self.now.start.now) A.rule (visit_in self.now) arbiter.old (requests_in self.now) }
+        ensures after { arbiter.new ≡ next_arbiter (network_in self.now.start.now) A.rule (visit_in self.now) arbiter.old (requests_in self.now) }
+        ensures old { IfSome result (λ g. g.old < self.now.start.now.plan.now.sizes.buffers) }
+    {
+        self.requests(entries);
+        let entries = entries.as_slice();
+        if entries.is_empty() {
+            return None;
+        }
+        let link = self.node * (self.start.plan.sizes.ports + 1) + self.port;
+        let place = choose(arbiter, link, entries)?;
+        self.request(entries[place].buffer)
     }
-    let place = choose(arbiter, n * (sizes.ports + 1) + p, &entries[0..len])?;
-    Some(grant_at(cycle, entries, targets, place))
 }
 
 // The place of the entry to which the arbiter grants the link.
@@ -82,115 +62,55 @@ fn choose<A: Arbiter>(arbiter: &mut A, link: usize, entries: &[Entry]) -> Option
     arbiter.grant(link, entries)
 }
 
-// The grant of the request at a place of the lists.
-fn grant_at(cycle: usize, entries: &[Entry], targets: &[usize], place: usize) -> Grant
-    requires small { place < 2048 }
-    requires entries { place < length entries.now }
-    requires targets { place < length targets.now }
-    ensures { result ≡ listed_grant cycle entries.now targets.now place }
-{
-    let entry = entries[place];
-    Grant {
-        cycle,
-        packet: entry.packet,
-        old: entry.buffer,
-        new: targets[place],
+impl<'a, 'b, R: Routing> Start<'a, 'b, R> {
+    // Decides the grants of the cycle, and writes them at the front of the trace. Answers how many there are.
+    pub fn decide<A: Arbiter>(
+        &self,
+        arbiter: &mut A,
+        scratch: &mut Scratch,
+        trace: &mut [Grant],
+    ) -> usize
+        requires room { self.now.plan.now.sizes.nodes * (self.now.plan.now.sizes.ports + 1) ≤ length trace.old }
+        ensures { Decided (snapshot self.now) A.rule arbiter.old arbiter.new trace.old trace.new result }
+    {
+        self.visit_all(arbiter, &mut scratch.granted, &mut scratch.entries, trace)
     }
-}
 
-// Decides the grants of a cycle, and writes them at the front of the trace. Answers how many there are.
-pub fn decide<R: Routing, A: Arbiter>(
-    routing: &R,
-    arbiter: &mut A,
-    queues: &Queues,
-    sizes: Sizes,
-    standing: &Standing,
-    cycle: usize,
-    scratch: &mut Scratch,
-    trace: &mut [Grant],
-) -> usize
-    requires fits { Fits (R.meaning routing.now) sizes }
-    requires sound { Sound queues.now sizes.depth }
-    requires stands { Stands (R.meaning routing.now) standing.now }
-    requires room { sizes.nodes * (sizes.ports + 1) ≤ length trace.old }
-    ensures { Decided (start_of (R.meaning routing.now) sizes cycle queues.now) A.rule arbiter.old arbiter.new trace.old trace.new result }
-{
-    decide_in(
-        routing,
-        arbiter,
-        queues,
-        sizes,
-        standing,
-        cycle,
-        &mut scratch.granted,
-        &mut scratch.entries,
-        &mut scratch.targets,
-        trace,
-    )
-}
-
-// The same, in memory for the largest network, of which the network's own part is lent on.
-fn decide_in<R: Routing, A: Arbiter>(
-    routing: &R,
-    arbiter: &mut A,
-    queues: &Queues,
-    sizes: Sizes,
-    standing: &Standing,
-    cycle: usize,
-    granted: &mut [bool],
-    entries: &mut [Entry],
-    targets: &mut [usize],
-    trace: &mut [Grant],
-) -> usize
-    requires fits { Fits (R.meaning routing.now) sizes }
-    requires sound { Sound queues.now sizes.depth }
-    requires stands { Stands (R.meaning routing.now) standing.now }
-    requires flags { sizes.buffers ≤ length granted.old }
-    requires entries { sizes.buffers ≤ length entries.old }
-    requires targets { sizes.buffers ≤ length targets.old }
-    requires room { sizes.nodes * (sizes.ports + 1) ≤ length trace.old }
-    ensures { Decided (start_of (R.meaning routing.now) sizes cycle queues.now) A.rule arbiter.old arbiter.new trace.old trace.new result }
-{
-    let granted = &mut granted[..sizes.buffers];
-    visit_all(
-        routing, arbiter, queues, sizes, standing, cycle, granted, entries, targets, trace,
-    )
-}
-
-// The same, with a mark for each buffer, and room for a request of each.
-fn visit_all<R: Routing, A: Arbiter>(
-    routing: &R,
-    arbiter: &mut A,
-    queues: &Queues,
-    sizes: Sizes,
-    standing: &Standing,
-    cycle: usize,
-    granted: &mut [bool],
-    entries: &mut [Entry],
-    targets: &mut [usize],
-    trace: &mut [Grant],
-) -> usize
-    requires fits { Fits (R.meaning routing.now) sizes }
-    requires sound { Sound queues.now sizes.depth }
-    requires stands { Stands (R.meaning routing.now) standing.now }
-    requires flags { length granted.old ≡ sizes.buffers }
-    requires entries { sizes.buffers ≤ length entries.old }
-    requires targets { sizes.buffers ≤ length targets.old }
-    requires room { sizes.nodes * (sizes.ports + 1) ≤ length trace.old }
-    ensures { Decided (start_of (R.meaning routing.now) sizes cycle queues.now) A.rule arbiter.old arbiter.new trace.old trace.new result }
-{
-    granted.fill(false);
-    let mut count = 0;
-    for n in 0..sizes.nodes {
-        for p in 0..sizes.ports + 1 {
-            if let Some(grant) = visit(
-                routing, arbiter, queues, sizes, standing, cycle, granted, entries, targets, n, p,
-            ) {
-                granted[grant.old] = true;
-                trace[count] = grant;
-                count += 1;
+    // The same, with marks for the buffers that have a grant, and room for the requests of a visit. A function of its own,
+    // since a part of a field is not lent beside another field.
+    fn visit_all<A: Arbiter>(
+        &self,
+        arbiter: &mut A,
+        granted: &mut [bool],
+        entries: &mut ArrayVec<Entry, 2048>,
+        trace: &mut [Grant],
+    ) -> usize
+        requires flags { self.now.plan.now.sizes.buffers ≤ length granted.old }
+        requires room { self.now.plan.now.sizes.nodes * (self.now.plan.now.sizes.ports + 1) ≤ length trace.old }
+        ensures { Decided (snapshot self.now) A.rule arbiter.old arbiter.new trace.old trace.new result }
+    {
+        let granted = &mut granted[..self.plan.sizes.buffers];
+        granted.fill(false);
+        // The front of the lent slice is written, a form that is fixed: the count is the next place in it, and the answer.
+        let mut count = 0;
+        for node in 0..self.plan.sizes.nodes {
+            for port in 0..self.plan.sizes.ports + 1 {
+                let visit = Visit {
+                    start: self,
+                    granted,
+                    node,
+                    port,
+                };
+                // The visit ends before a mark is set.
+                let decision = visit.decide(arbiter, entries);
+                drop(visit);
+                if let Some(grant) = decision {
+                    granted[grant.old] = true;
+                    trace[count] = grant;
+                    count += 1;
+                }
             }
         }
+        count
     }
-    count
 }

@@ -4,11 +4,16 @@
 
 mod deciding;
 mod moving;
+mod plan;
 mod requesting;
 mod sizes;
 mod standing;
+mod start;
+mod visit;
 
-pub use deciding::{Scratch, decide};
+pub use deciding::Scratch;
 pub use moving::move_all;
+pub use plan::Plan;
 pub use sizes::Sizes;
-pub use standing::{Standing, location};
+pub use standing::Standing;
+pub use start::Start;

@@ -1,184 +1,127 @@
 // Which buffers request a port, and what they would be granted.
-ghost use Rattle.std.specs.Prelude.{◌≡◌, ℕ, ◌<◌, ◌≤◌, map, length, take, Some, nat_lt};
-ghost use Rattle.queue.specs.Contents.{Sound};
-ghost use Rattle.switch.specs.Places.{location as location_of};
-ghost use Rattle.switch.specs.Buffers.{contents};
-ghost use Rattle.switch.specs.Cycle.{is_nearer, by_escape, next_buffer, request as request_of, requests as requests_of, entry_of};
-ghost use Rattle.cycle.specs.Measures.{Fits, buffers_in, start_of, visit_of};
-ghost use Rattle.cycle.specs.Chains.{Stands};
-ghost use Rattle.cycle.specs.Targets.{new_of};
+ghost use Rattle.std.specs.Prelude.{◌≡◌, ◌<◌, map, Some, nat_lt};
+ghost use Rattle.switch.specs.Places.{location};
+ghost use Rattle.switch.specs.Cycle.{has_room, is_nearer, by_escape, next_buffer, granting, entry_of};
+ghost use Rattle.cycle.specs.Starts.{network_in, snapshot, request_in, requests_in};
 
-use crate::{Sizes, Standing};
+use crate::Start;
+use crate::visit::Visit;
 use arbiter::Entry;
+use arrayvec::ArrayVec;
 use network::Routing;
-use queue::{Packet, Queues};
+use queue::Packet;
 use switch::Grant;
 
-// Whether the buffer `b` has room.
-fn has_room(queues: &Queues, sizes: Sizes, b: usize) -> bool
-    requires buffer { b < sizes.buffers }
-    requires few { sizes.buffers ≤ 2048 }
-    ensures { result ≡ nat_lt (length (contents (buffers_in sizes queues.now) b)) sizes.depth }
-{
-    is_below(queues.len(b), sizes.depth)
+impl<'a, 'b, R: Routing> Start<'a, 'b, R> {
+    // Whether the buffer `b` has room. That `b` is one of the plan's stands in clauses, since a number alone does not keep it.
+    fn has_room(&self, b: usize) -> bool
+        requires { b < self.now.plan.now.sizes.buffers }
+        ensures { result ≡ has_room (snapshot self.now) b }
+    {
+        is_below(self.queues.len(b), self.plan.sizes.depth)
+    }
+
+    // Whether the link of `n` by port `p` leads one nearer to `d`.
+    fn is_nearer(&self, n: usize, p: usize, d: usize) -> bool
+        ensures { result ≡ is_nearer (network_in self.now) n d ((network_in self.now).link n p) }
+    {
+        let routing = self.plan.routing;
+        routing
+            .link(n, p)
+            .is_some_and(|m| routing.distance(m, d) + 1 == routing.distance(n, d))
+    }
+
+    // The grant that moves a packet from buffer `b` to buffer `new`. Its number goes by `as`, since a `u32` makes no `usize` by
+    // `From`.
+    fn granting(&self, packet: Packet, b: usize, new: usize) -> Grant
+        ensures { Some result ≡ granting (snapshot self.now) b packet (Some new) }
+    {
+        Grant {
+            cycle: self.cycle,
+            packet: packet.number as usize,
+            old: b,
+            new,
+        }
+    }
 }
 
-// Whether a buffer that holds so many packets has a slot left.
+// Whether a buffer that holds so many packets has a slot left. A function of its own, so that it proves without a file, as
+// `next_for` and, beside the decisions, `choose`.
 fn is_below(count: usize, depth: usize) -> bool
     ensures { result ≡ nat_lt count depth }
 {
     count < depth
 }
 
-// Whether the link of `n` by port `p` leads one nearer to `d`.
-fn is_nearer<R: Routing>(routing: &R, n: usize, p: usize, d: usize) -> bool
-    ensures { result ≡ is_nearer (R.meaning routing.now) n d ((R.meaning routing.now).link n p) }
-{
-    match routing.link(n, p) {
-        Some(m) => routing.distance(m, d) + 1 == routing.distance(n, d),
-        None => false,
-    }
-}
-
-// The buffer of the escape channel of a packet at `n` for `d`, if it is a channel of port `p` and has room.
-fn by_escape<R: Routing>(
-    routing: &R,
-    queues: &Queues,
-    sizes: Sizes,
-    n: usize,
-    p: usize,
-    d: usize,
-) -> Option<usize>
-    requires fits { Fits (R.meaning routing.now) sizes }
-    requires node { n < sizes.nodes }
-    requires port { p < sizes.ports }
-    ensures { (k : ℕ) → result ≡ by_escape (start_of (R.meaning routing.now) sizes k queues.now) n p ((R.meaning routing.now).escape n d) }
-{
-    let hop = routing.escape(n, d)?;
-    if hop.port != p {
-        return None;
-    }
-    let b = sizes.channel_buffer(n, p, hop.class + 1);
-    if has_room(queues, sizes, b) {
-        Some(b)
-    } else {
-        None
-    }
-}
-
-// The buffer that a packet at `n` for `d` joins by port `p`; the number of buffers where it is delivered; none where it
-// may not use the port.
-fn next_buffer<R: Routing>(
-    routing: &R,
-    queues: &Queues,
-    sizes: Sizes,
-    n: usize,
-    p: usize,
-    d: usize,
-) -> Option<usize>
-    requires fits { Fits (R.meaning routing.now) sizes }
-    requires node { n < sizes.nodes }
-    requires port { p ≤ sizes.ports }
-    ensures { (k : ℕ) → result ≡ next_buffer (start_of (R.meaning routing.now) sizes k queues.now) n p d }
-{
-    if p == sizes.ports {
-        return if d == n { Some(sizes.buffers) } else { None };
-    }
-    let adaptive = sizes.channel_buffer(n, p, 0);
-    if is_nearer(routing, n, p, d) && has_room(queues, sizes, adaptive) {
-        return Some(adaptive);
-    }
-    by_escape(routing, queues, sizes, n, p, d)
-}
-
-// The buffer that a packet at `n` joins by port `p`. Where it came from and what it has done so far does not matter.
-fn next_for<R: Routing>(
-    routing: &R,
-    queues: &Queues,
-    sizes: Sizes,
-    n: usize,
-    p: usize,
-    packet: Packet,
-) -> Option<usize>
-    requires fits { Fits (R.meaning routing.now) sizes }
-    requires node { n < sizes.nodes }
-    requires port { p ≤ sizes.ports }
-    ensures { (k : ℕ) → result ≡ next_buffer (start_of (R.meaning routing.now) sizes k queues.now) n p packet.destination }
-{
-    next_buffer(routing, queues, sizes, n, p, packet.destination as usize)
-}
-
-// The grant that the buffer `b`, which stands at `n`, requests at the visit of port `p`.
-fn request<R: Routing>(
-    routing: &R,
-    queues: &Queues,
-    sizes: Sizes,
-    cycle: usize,
-    granted: &[bool],
-    n: usize,
-    p: usize,
-    b: usize,
-) -> Option<Grant>
-    requires fits { Fits (R.meaning routing.now) sizes }
-    requires sound { Sound queues.now sizes.depth }
-    requires flags { length granted.now ≡ sizes.buffers }
-    requires node { n < sizes.nodes }
-    requires port { p ≤ sizes.ports }
-    requires buffer { b < sizes.buffers }
-    requires stands { location_of (R.meaning routing.now) b ≡ Some n }
-    ensures { result ≡ request_of (start_of (R.meaning routing.now) sizes cycle queues.now) granted.now (visit_of n p) b }
-{
-    if granted[b] {
-        return None;
-    }
-    let packet = queues.front(sizes.depth, b)?;
-    let new = next_for(routing, queues, sizes, n, p, packet)?;
-    Some(Grant {
-        cycle,
-        packet: packet.number as usize,
-        old: b,
-        new,
-    })
-}
-
-// Writes the requests at the visit of port `p` at `n`, in rising order, at the front of `entries`, and the buffers that
-// they lead to at the front of `targets`. Answers how many there are.
-pub fn requests<R: Routing>(
-    routing: &R,
-    queues: &Queues,
-    sizes: Sizes,
-    standing: &Standing,
-    cycle: usize,
-    granted: &[bool],
-    entries: &mut [Entry],
-    targets: &mut [usize],
-    n: usize,
-    p: usize,
-) -> usize
-    requires fits { Fits (R.meaning routing.now) sizes }
-    requires sound { Sound queues.now sizes.depth }
-    requires stands { Stands (R.meaning routing.now) standing.now }
-    requires flags { length granted.now ≡ sizes.buffers }
-    requires entries { sizes.buffers ≤ length entries.old }
-    requires targets { sizes.buffers ≤ length targets.old }
-    requires node { n < sizes.nodes }
-    requires port { p ≤ sizes.ports }
-    ensures entries { take result entries.new ≡ map entry_of (requests_of (start_of (R.meaning routing.now) sizes cycle queues.now) granted.now (visit_of n p)) }
-    ensures targets { take result targets.new ≡ map new_of (requests_of (start_of (R.meaning routing.now) sizes cycle queues.now) granted.now (visit_of n p)) }
-    ensures few { result ≤ sizes.buffers }
-{
-    let mut len = 0;
-    let mut b = standing.first_at(n);
-    while b < sizes.buffers {
-        if let Some(grant) = request(routing, queues, sizes, cycle, granted, n, p, b) {
-            entries[len] = Entry {
-                buffer: grant.old,
-                packet: grant.packet,
-            };
-            targets[len] = grant.new;
-            len += 1;
+impl<'a, 'b, 'c, R: Routing> Visit<'a, 'b, 'c, R> {
+    // The buffer of the escape channel of a packet for `d`, if it is a channel of the port, which does not deliver, and has room.
+    fn by_escape(&self, d: usize) -> Option<usize>
+        requires { self.now.port < self.now.start.now.plan.now.sizes.ports }
+        ensures { result ≡ by_escape (snapshot self.now.start.now) self.now.node self.now.port ((network_in self.now.start.now).escape self.now.node d) }
+    {
+        let hop = self.start.plan.routing.escape(self.node, d)?;
+        if hop.port != self.port {
+            return None;
         }
-        b = standing.next_after(b);
+        let b = self
+            .start
+            .plan
+            .sizes
+            .channel_buffer(self.node, self.port, hop.class + 1);
+        self.start.has_room(b).then_some(b)
     }
-    len
+
+    // The buffer that a packet for `d` joins by the port; the number of buffers where it is delivered, since a trace is
+    // written so; none where it may not use the port.
+    fn next_buffer(&self, d: usize) -> Option<usize>
+        ensures { result ≡ next_buffer (snapshot self.now.start.now) self.now.node self.now.port d }
+    {
+        let sizes = self.start.plan.sizes;
+        if self.port == sizes.ports {
+            return (d == self.node).then_some(sizes.buffers);
+        }
+        let adaptive = sizes.channel_buffer(self.node, self.port, 0);
+        if self.start.is_nearer(self.node, self.port, d) && self.start.has_room(adaptive) {
+            return Some(adaptive);
+        }
+        self.by_escape(d)
+    }
+
+    // The buffer that a packet joins. Where it came from and what it has done so far does not matter.
+    fn next_for(&self, packet: Packet) -> Option<usize>
+        ensures { result ≡ next_buffer (snapshot self.now.start.now) self.now.node self.now.port packet.destination }
+    {
+        self.next_buffer(usize::from(packet.destination))
+    }
+
+    // The grant that the buffer `b`, which stands at the node, requests.
+    pub fn request(&self, b: usize) -> Option<Grant>
+        requires buffer { b < self.now.start.now.plan.now.sizes.buffers }
+        requires stands { location (network_in self.now.start.now) b ≡ Some self.now.node }
+        ensures { result ≡ request_in self.now b }
+    {
+        if self.granted[b] {
+            return None;
+        }
+        let packet = self.start.queues.front(self.start.plan.sizes.depth, b)?;
+        let new = self.next_for(packet)?;
+        Some(self.start.granting(packet, b, new))
+    }
+
+    // The entries of all buffers that request the port, in rising order.
+    pub fn requests(&self, entries: &mut ArrayVec<Entry, 2048>)
+        ensures { entries.new.items ≡ map entry_of (requests_in self.now) }
+    {
+        entries.clear();
+        let mut next = self.start.standing.first_at(self.node);
+        while let Some(b) = next {
+            if let Some(grant) = self.request(b) {
+                entries.push(Entry {
+                    buffer: grant.old,
+                    packet: grant.packet,
+                });
+            }
+            next = self.start.standing.next_after(b);
+        }
+    }
 }

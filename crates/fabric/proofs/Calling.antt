@@ -1,17 +1,14 @@
--- A call is performed or refused, and keeps the fabric ready. Assumes nothing.
+-- A call is performed or refused, and keeps the invariant. Assumes nothing.
 use Rattle.std.proofs.Common.{◌≡◌, ℕ, [], Some, None, Option, sym, refl, ap, ◌∙◌, arith}
-use Rattle.queue.specs.Contents.{Sound}
 use Rattle.table.specs.TableLaws.{table_lawful}
 use Rattle.arbiter.specs.Rule.{Rule, Exists}
 use Rattle.switch.specs.Calls.{SwitchState, Call, Answer, Outcome, standard_limits, first_refusal, questions, performed, settled, perform}
 use Rattle.switch.specs.Calls.Answer.{refused, done, number}
-use Rattle.cycle.specs.Measures.{Fits}
-use Rattle.cycle.specs.Chains.{Stands}
 use Rattle.fabric.specs.declared.body.Body.{Body}
 use Rattle.fabric.specs.declared.fabric.Fabric.{Fabric}
-use Rattle.fabric.specs.Bodies.{state_in, Ready}
+use Rattle.fabric.specs.Bodies.{state_in, Reached}
 use Rattle.fabric.specs.Fabrics.{network_in, depth_in, state_of, outcome, Answered}
-use Rattle.fabric.proofs.Readiness.{fits_out, stands_out, sound_out, ready_after}
+use Rattle.fabric.proofs.Reaching.{reached_after}
 
 not_done : (k : ℕ) → done ≡ refused k → ⊥
 not_done k e = let z : ◌≡◌ {A = ℕ} 0 1 = cc in omega arith
@@ -22,15 +19,6 @@ not_number n k e = let z : ◌≡◌ {A = ℕ} 0 1 = cc in omega arith
 module _ {R A : Type 0} (f : Fabric R A) where
   abbrev pub asked : Call → Option ℕ
   asked c = first_refusal (questions standard_limits (network_in f) (depth_in f) c (state_of f))
-
-  pub fits : Fits (network_in f) f.body.sizes
-  fits = fits_out (network_in f) f.arbiter f.body f.standing f.ready
-
-  pub stands : Stands (network_in f) f.standing
-  stands = stands_out (network_in f) f.arbiter f.body f.standing f.ready
-
-  pub sound : Sound f.body.queues (depth_in f)
-  sound = sound_out (network_in f) f.arbiter f.body f.standing f.ready
 
   module _ (rule : Rule A) (c : Call) where
     pub performs : asked c ≡ None → outcome rule c f ≡ performed (network_in f) rule (depth_in f) c (state_of f)
@@ -84,7 +72,6 @@ module _ {R A : Type 0} (f : Fabric R A) where
         → Answered rule c f new (number n)
     answered_number e new n answer state routing net depth = answered e new (number n) answer state routing net depth (not_number n)
 
-    -- The fabric is ready again.
-    pub kept : Exists rule → (b : A) (new : Body) → new.sizes ≡ f.body.sizes → Sound new.queues (depth_in f) → state_in b new ≡ (outcome rule c f).state
-        → ∥ Ready (network_in f) b new f.standing ∥₁
-    kept exists b new same sd e = ready_after (network_in f) (table_lawful f.table) rule exists c f.arbiter b f.body new f.standing same sd e f.ready
+    -- Its state is reached again.
+    pub kept : Exists rule → (b : A) (new : Body) → new.sizes ≡ f.body.sizes → state_in b new ≡ (outcome rule c f).state → ∥ Reached (network_in f) b new ∥₁
+    kept exists b new same e = reached_after (network_in f) (table_lawful f.table) rule exists c f.arbiter b f.body new f.fits same e f.reached

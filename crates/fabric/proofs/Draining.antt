@@ -1,31 +1,26 @@
 -- One more cycle of a drain, and its end. Assumes nothing.
-use Rattle.std.proofs.Common.{◌≡◌, ℕ, zero, suc, ◌+◌, ◌<◌, ◌≤◌, Bool, false, cond, leb, [], length, Some, None, Option, sym, refl, ap, ◌∙◌, subst₂, arith}
+use Rattle.std.proofs.Common.{◌≡◌, ℕ, zero, suc, ◌+◌, ◌<◌, ◌≤◌, Bool, false, [], length, None, sym, refl, ap, ◌∙◌, subst₂, ap₂, arith}
 use mathlib.Core.Logic.{∥∥₁_elim}
 use native.Mathlib.Bridge.{le_prop}
-use Rattle.std.proofs.lemmas.Bool.{eq-eqb, ne_eqb, le-leb, lt-leb, leb-true, cond-true, cond-false}
+use Rattle.std.proofs.lemmas.Bool.Decides.{nat_tests}
+use Rattle.std.proofs.lemmas.Bool.{eq-eqb, ne_eqb}
 use Rattle.network.specs.Network.{Network}
 use Rattle.arbiter.specs.Rule.{Rule, Exists}
-use Rattle.table.specs.declared.table.Table.{Table}
-use Rattle.table.specs.Tables.{network_of}
 use Rattle.table.specs.TableLaws.{table_lawful}
 use Rattle.switch.specs.Buffers.{work_left}
-use Rattle.switch.specs.Calls.{SwitchState, Run, inside, decisions, cycled_by, is_closed, drain_step, draining}
-use Rattle.switch.specs.declared.feed_state.FeedState.{FeedState}
-use Rattle.switch.specs.declared.feed_state.FeedState.TheVariants.{Closed}
-use Rattle.switch.specs.Calls.Call.{drain}
+use Rattle.switch.specs.Calls.{SwitchState, Answer, Run, inside, decisions, cycled_by, drain_step, draining}
+use Rattle.switch.specs.Calls.Call.{cycle, drain}
 use Rattle.switch.specs.Calls.Answer.{number}
-use Rattle.switch.proofs.Keeping.{held_le_work, holds_first, cycle_work, work_grants, inside_held}
-use Rattle.fabric.specs.declared.body.Body.{Body}
+use Rattle.switch.proofs.Keeping.{held_le_work, cycle_work, work_grants, inside_held}
 use Rattle.fabric.specs.declared.fabric.Fabric.{Fabric}
-use Rattle.fabric.specs.Bodies.{state_in}
-use Rattle.fabric.specs.Fabrics.{network_in, depth_in, state_of, outcome}
-use Rattle.fabric.proofs.Readiness.{count_fits}
+use Rattle.fabric.specs.Fabrics.{network_in, depth_in, state_of, outcome, Answered}
+use Rattle.fabric.proofs.Reaching.{count_fits}
 use Rattle.fabric.proofs.Calling.{asked, performed_state, performed_answer}
-use Rattle.fabric.proofs.Feeding.{not_closed}
+use Rattle.fabric.proofs.Cycling.{visits_few, may_cycle, cycled_state}
 
 -- What is left of a drain after so many cycles: with as many more as are left, it leads where it led from the start.
 pub record Draining {R A : Type 0} (rule : Rule A) (start now : Fabric R A) (count left : ℕ) : Type 0 where
-  pub table_same : now.table ≡ start.table
+  pub network_same : network_in now ≡ network_in start
   pub routing_same : now.routing ≡ start.routing
   pub depth_same : depth_in now ≡ depth_in start
   pub cycles_are : now.body.cycles ≡ start.body.cycles + count
@@ -53,67 +48,55 @@ module _ {R A : Type 0} (rule : Rule A) (exists : Exists rule) (m : Fabric R A) 
 
   pub some_work : 0 < work_left (network_in m) (state_of m).buffers
   some_work =
-      ∥∥₁_elim m.ready le_prop
+      ∥∥₁_elim m.reached le_prop
       (λ r.
-      let i = inside_held (network_in m) (table_lawful m.table) rule exists (depth_in m) r.fits.deep (count_fits (network_in m) m.body.sizes r.fits) r.history (state_of m) r.invariant in
+      let i = inside_held (network_in m) (table_lawful m.table) rule exists (depth_in m) m.fits.deep (count_fits (network_in m) m.body.sizes m.fits) r.history (state_of m) r.invariant in
       let w = held_le_work (network_in m) (state_of m).buffers in
       omega arith)
 
-  pub work_falls : work_left (network_in m) next_state.buffers + 1 ≤ work_left (network_in m) (state_of m).buffers
+  work_falls : work_left (network_in m) next_state.buffers + 1 ≤ work_left (network_in m) (state_of m).buffers
   unfolding cycled_by
   work_falls =
-      ∥∥₁_elim m.ready le_prop
+      ∥∥₁_elim m.reached le_prop
       (λ r.
       let law = table_lawful m.table in
-      let few = count_fits (network_in m) m.body.sizes r.fits in
-      let a = cycle_work (network_in m) law rule exists (depth_in m) r.fits.deep few r.history (state_of m) r.invariant in
-      let b = work_grants (network_in m) law rule exists (depth_in m) r.fits.deep few r.history (state_of m) r.invariant some_work in
+      let few = count_fits (network_in m) m.body.sizes m.fits in
+      let a = cycle_work (network_in m) law rule exists (depth_in m) m.fits.deep few r.history (state_of m) r.invariant in
+      let b = work_grants (network_in m) law rule exists (depth_in m) m.fits.deep few r.history (state_of m) r.invariant some_work in
       omega arith)
 
-  -- So the work of what it leaves is less.
-  pub work_less : (b : A) (new : Body) → state_in b new ≡ next_state → work_left (network_in m) (state_in b new).buffers < work_left (network_in m) (state_of m).buffers
-  work_less b new e =
-      let a = work_falls in
-      let w : work_left (network_in m) (state_in b new).buffers ≡ work_left (network_in m) next_state.buffers = ap (λ (s : SwitchState A). work_left (network_in m) s.buffers) e in
-      omega arith
-
--- The questions of a drain one after another, and what they give where none fails.
-module _ {R A : Type 0} (f : Fabric R A) where
-  pub ask_closed : (f.body.feed ≡ Closed → ⊥) → asked f drain ≡ Some 12
-  ask_closed n = cond-false (is_closed f.body.feed) _ _ (not_closed f.body.feed n)
-
-  rest_closed : f.body.feed ≡ Closed → (o : Option ℕ) → cond (is_closed f.body.feed) o (Some 12) ≡ o
-  rest_closed e o = ap (λ (x : FeedState). cond (is_closed x) o (Some 12)) e
-
-  pub ask_budget : f.body.feed ≡ Closed → 1000000 < f.body.cycles + work_left (network_in f) (state_of f).buffers → asked f drain ≡ Some 11
-  ask_budget e h = rest_closed e _ ∙ cond-false (leb (f.body.cycles + work_left (network_in f) (state_of f).buffers) 1000000) _ _ (lt-leb _ 1000000 h)
-
-  pub may_drain : f.body.feed ≡ Closed → f.body.cycles + work_left (network_in f) (state_of f).buffers ≤ 1000000 → asked f drain ≡ None
-  may_drain e h = rest_closed e _ ∙ cond-true (leb (f.body.cycles + work_left (network_in f) (state_of f).buffers) 1000000) _ _ (le-leb _ 1000000 h)
-
-  pub drain_budget : asked f drain ≡ None → f.body.cycles + work_left (network_in f) (state_of f).buffers ≤ 1000000
-  drain_budget e =
-      let q = holds_first (is_closed f.body.feed) _ 12 e in
-      let p = holds_first (leb (f.body.cycles + work_left (network_in f) (state_of f).buffers) 1000000) None 11 q.1 in
-      leb-true _ _ p.0
+-- What the questions of a drain give where none fails.
+drain_budget : {R A : Type 0} (f : Fabric R A) → asked f drain ≡ None → f.body.cycles + work_left (network_in f) (state_of f).buffers ≤ 1000000
+drain_budget f none = grind (arith, nat_tests)
 
 module _ {R A : Type 0} (rule : Rule A) (exists : Exists rule) (start m : Fabric R A) (count left : ℕ) (inv : Draining rule start m count left) where
-  same_network : network_in m ≡ network_in start
-  same_network = ap (λ (t : Table). network_of t) inv.table_same
-
   pub some_left : 0 < inside (state_of m) → 0 < left
   some_left h =
       let w = some_work rule exists m h in
-      let e : work_left (network_in m) (state_of m).buffers ≡ work_left (network_in start) (state_of m).buffers = ap (λ (x : Network). work_left x (state_of m).buffers) same_network in
+      let e : work_left (network_in m) (state_of m).buffers ≡ work_left (network_in start) (state_of m).buffers = ap (λ (x : Network). work_left x (state_of m).buffers) inv.network_same in
       let b = inv.enough in
       omega arith
 
-  pub cycles_few : start.body.cycles + work_left (network_in start) (state_of start).buffers ≤ 1000000 → 0 < inside (state_of m) → m.body.cycles < 1000000
+  cycles_few : start.body.cycles + work_left (network_in start) (state_of start).buffers ≤ 1000000 → 0 < inside (state_of m) → m.body.cycles < 1000000
   cycles_few h k = let a = some_left k in let b = inv.cycles_are in let c = inv.sum_is in omega arith
 
+  -- No question of the next cycle fails.
+  pub goes_on : (room : ℕ) → room ≡ 448 → asked start drain ≡ None → 0 < inside (state_of m) → asked m (cycle room) ≡ None
+  goes_on room e none some = may_cycle m room (omega (arith, visits_few m)) (cycles_few (drain_budget start none) some)
+
   -- One more cycle.
-  module _ (next : Fabric R A) (some : 0 < inside (state_of m)) (tb : next.table ≡ m.table) (rt : next.routing ≡ m.routing) (dp : depth_in next ≡ depth_in m)
-      (e : state_of next ≡ cycled_by (network_in m) (decisions (network_in m) rule (depth_in m) (state_of m)) (state_of m)) where
+  module _ (next : Fabric R A) (some : 0 < inside (state_of m)) (room : ℕ) (may : asked m (cycle room) ≡ None) (said : Answer) (answered : Answered rule (cycle room) m next said) where
+    e : state_of next ≡ next_state rule exists m some
+    e = cycled_state m rule room may next said answered
+
+    -- The work that is left is less.
+    pub work_less : work_left (network_in next) (state_of next).buffers < work_left (network_in m) (state_of m).buffers
+    work_less =
+        let a = work_falls rule exists m some in
+        let w : work_left (network_in next) (state_of next).buffers ≡ work_left (network_in m) (next_state rule exists m some).buffers
+        = ap₂ (λ (x : Network) (s : SwitchState A). work_left x s.buffers) answered.network_is e in
+        omega arith
+
     abbrev net : Network
     net = network_in start
 
@@ -124,7 +107,7 @@ module _ {R A : Type 0} (rule : Rule A) (exists : Exists rule) (start m : Fabric
     after = cycled_by net (decisions net rule depth (state_of m)) (state_of m)
 
     here : state_of next ≡ after
-    here = subst₂ (λ (x : Network) (d : ℕ). state_of next ≡ cycled_by x (decisions x rule d (state_of m)) (state_of m)) same_network inv.depth_same e
+    here = subst₂ (λ (x : Network) (d : ℕ). state_of next ≡ cycled_by x (decisions x rule d (state_of m)) (state_of m)) inv.network_same inv.depth_same e
 
     pub drain_goes_on : (j : ℕ) → left ≡ suc j → Draining rule start next (count + 1) j
     unfolding cycled_by
@@ -133,9 +116,9 @@ module _ {R A : Type 0} (rule : Rule A) (exists : Exists rule) (start m : Fabric
         = ap (λ (k : ℕ). draining net rule depth k (state_of m)) x ∙ one_more net rule depth (state_of m) j some in
         let sum : count + 1 + j ≡ count + left = omega arith in
         record {
-          table_same = tb ∙ inv.table_same;
-          routing_same = rt ∙ inv.routing_same;
-          depth_same = dp ∙ inv.depth_same;
+          network_same = answered.network_is ∙ inv.network_same;
+          routing_same = answered.routing_is ∙ inv.routing_same;
+          depth_same = answered.depth_is ∙ inv.depth_same;
           cycles_are =
               let a : next.body.cycles ≡ m.body.cycles + 1 = ap (λ (s : SwitchState A). s.cycles) here in
               let b = inv.cycles_are in
@@ -145,8 +128,8 @@ module _ {R A : Type 0} (rule : Rule A) (exists : Exists rule) (start m : Fabric
               let a = work_falls rule exists m some in
               let b : work_left (network_in m) (state_of next).buffers ≡ work_left (network_in m) (next_state rule exists m some).buffers
               = ap (λ (s : SwitchState A). work_left (network_in m) s.buffers) e in
-              let c : work_left (network_in m) (state_of next).buffers ≡ work_left net (state_of next).buffers = ap (λ (y : Network). work_left y (state_of next).buffers) same_network in
-              let d : work_left (network_in m) (state_of m).buffers ≡ work_left net (state_of m).buffers = ap (λ (y : Network). work_left y (state_of m).buffers) same_network in
+              let c : work_left (network_in m) (state_of next).buffers ≡ work_left net (state_of next).buffers = ap (λ (y : Network). work_left y (state_of next).buffers) inv.network_same in
+              let d : work_left (network_in m) (state_of m).buffers ≡ work_left net (state_of m).buffers = ap (λ (y : Network). work_left y (state_of m).buffers) inv.network_same in
               let f = inv.enough in
               omega arith;
           state_same =

@@ -1,12 +1,13 @@
 -- Opening and closing a feed. Assumes nothing.
-use Rattle.std.proofs.Common.{◌≡◌, ℕ, Bool, false, cond, Some, None, Option, refl, ap}
+use Rattle.std.proofs.Common.{◌≡◌, None, refl}
+use Rattle.arbiter.specs.Rule.{Rule, Exists}
 use Rattle.switch.specs.declared.feed_state.FeedState.{FeedState}
-use Rattle.switch.specs.declared.feed_state.FeedState.TheVariants.{Unopened, Open, Closed}
-use Rattle.switch.specs.Calls.{is_unopened, is_open, is_closed}
-use Rattle.switch.specs.Calls.Call.{open_feed, close_feed}
+use Rattle.switch.specs.Calls.{Call, performed}
 use Rattle.fabric.specs.declared.body.Body.{Body}
 use Rattle.fabric.specs.declared.fabric.Fabric.{Fabric}
-use Rattle.fabric.proofs.Calling.{asked}
+use Rattle.fabric.specs.Bodies.{state_in, Reached}
+use Rattle.fabric.specs.Fabrics.{network_in, depth_in, state_of}
+use Rattle.fabric.proofs.Calling.{asked, performed_state, kept}
 
 -- The body with another state of its feed.
 abbrev pub refed : FeedState → Body → Body
@@ -20,30 +21,7 @@ refed x body = record {
   feed = x;
 }
 
-pub not_unopened : (x : FeedState) → (x ≡ Unopened → ⊥) → is_unopened x ≡ false
-not_unopened Unopened n = absurd (n refl)
-not_unopened Open n = refl
-not_unopened Closed n = refl
-
-pub not_open : (x : FeedState) → (x ≡ Open → ⊥) → is_open x ≡ false
-not_open Unopened n = refl
-not_open Open n = absurd (n refl)
-not_open Closed n = refl
-
-pub not_closed : (x : FeedState) → (x ≡ Closed → ⊥) → is_closed x ≡ false
-not_closed Unopened n = refl
-not_closed Open n = refl
-not_closed Closed n = absurd (n refl)
-
-module _ {R A : Type 0} (f : Fabric R A) where
-  pub may_open : f.body.feed ≡ Unopened → asked f open_feed ≡ None
-  may_open e = ap (λ (x : FeedState). cond {A = Option ℕ} (is_unopened x) None (Some 4)) e
-
-  pub opened_before : (f.body.feed ≡ Unopened → ⊥) → asked f open_feed ≡ Some 4
-  opened_before n = ap (λ (x : Bool). cond {A = Option ℕ} x None (Some 4)) (not_unopened f.body.feed n)
-
-  pub may_close : f.body.feed ≡ Open → asked f close_feed ≡ None
-  may_close e = ap (λ (x : FeedState). cond {A = Option ℕ} (is_open x) None (Some 5)) e
-
-  pub not_opened : (f.body.feed ≡ Open → ⊥) → asked f close_feed ≡ Some 5
-  not_opened n = ap (λ (x : Bool). cond {A = Option ℕ} x None (Some 5)) (not_open f.body.feed n)
+-- A performed call that changes the feed alone keeps the invariant.
+pub refed_reached : {R A : Type 0} (f : Fabric R A) (rule : Rule A) → Exists rule → (c : Call) → asked f c ≡ None → (x : FeedState)
+    → state_in f.arbiter (refed x f.body) ≡ (performed (network_in f) rule (depth_in f) c (state_of f)).state → ∥ Reached (network_in f) f.arbiter (refed x f.body) ∥₁
+refed_reached f rule exists c none x e = kept f rule c exists f.arbiter (refed x f.body) refl (performed_state f rule c none _ e)

@@ -1,4 +1,4 @@
-pub mod Readiness
+pub mod Reaching
 pub mod Movability
 pub mod Idling
 pub mod OneCycle

@@ -26,7 +26,7 @@ use Rattle.switch.proofs.Moving.{Moved, fit_on, moved_on, leave_short}
 use Rattle.cycle.specs.declared.sizes.Sizes.{Sizes}
 use Rattle.cycle.specs.Measures.{Fits}
 use Rattle.cycle.specs.Moves.{Movable, AllMovable}
-use Rattle.fabric.proofs.Readiness.{count_fits}
+use Rattle.fabric.proofs.Reaching.{count_fits}
 
 -- That grants can be carried out holds in one way only.
 few_hops_prop : (qs : List Packet) → IsProp (AllByRecursion (λ (q : Packet). q.hops ≤ 64) qs)

@@ -1,7 +1,6 @@
 -- A fabric that was just made. Assumes nothing.
 use Rattle.std.proofs.Common.{◌≡◌, ℕ, ◌+◌, ◌*◌, ◌≤◌, List, [], replicate, None, Ok, Option, sym, refl, ap, ◌∙◌, subst, subst₂, mul-le-mul, arith}
 use Rattle.queue.specs.declared.packet.Packet.{Packet}
-use Rattle.queue.specs.Contents.{Sound}
 use Rattle.network.specs.Network.{Network}
 use Rattle.network.specs.Laws.{Bounds}
 use Rattle.switch.specs.Places.{channel_count, buffer_count}
@@ -10,11 +9,9 @@ use Rattle.switch.specs.Invariant.{Invariant}
 use Rattle.switch.proofs.Keeping.{invariant_empty}
 use Rattle.switch.proofs.LawHolds.{made_sizes}
 use Rattle.cycle.specs.declared.sizes.Sizes.{Sizes}
-use Rattle.cycle.specs.declared.standing.Standing.{Standing}
 use Rattle.cycle.specs.Measures.{Measured, Fits, buffers_in}
-use Rattle.cycle.specs.Chains.{Stands}
 use Rattle.fabric.specs.declared.body.Body.{Body}
-use Rattle.fabric.specs.Bodies.{state_in, Ready, NewBody}
+use Rattle.fabric.specs.Bodies.{state_in, Reached, NewBody}
 
 -- There are few buffers, whatever the depth.
 pub buffers_small : (net : Network) → Bounds net → (sizes : Sizes) (depth : ℕ) → Measured net depth sizes → sizes.buffers ≤ 1216
@@ -59,14 +56,10 @@ module _ (net : Network) (depth : ℕ) (sizes : Sizes) (measured : Measured net 
     pub made_depth : body.sizes.depth ≡ depth
     made_depth = ap (λ (x : Sizes). x.depth) new.sizes_is ∙ measured.depth_is
 
-    -- and the invariant holds of it.
-    pub made_ready : (table : Network) → table ≡ net → (standing : Standing) → Stands net standing → ∥ Ready table a body standing ∥₁
-    made_ready table e standing stands =
-        let fits = made_fits in
+    -- which no call has changed.
+    pub made_reached : (table : Network) → table ≡ net → ∥ Reached table a body ∥₁
+    made_reached table e =
         ∣ record {
-          fits = subst₂ (λ (n : Network) (x : Sizes). Fits n x) (sym e) (sym new.sizes_is) fits;
-          stands = subst (λ (n : Network). Stands n standing) (sym e) stands;
-          sound = subst (λ (x : Sizes). Sound body.queues x.depth) (sym new.sizes_is) (new.empty.sound sizes.depth fits.deep);
           history = [];
           invariant =
               subst (λ (n : Network). Invariant n body.sizes.depth [] (state_in a body)) (sym e)

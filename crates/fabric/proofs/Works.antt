@@ -1,73 +1,66 @@
--- The work of the packets of a buffer, and of the buffers in memory. Assumes nothing.
-use Rattle.std.proofs.Common.{◌≡◌, ℕ, zero, suc, ◌+◌, ◌<◌, ◌≤◌, ◌⊎◌, List, [], ◌∷◌, length, get_or, take, Some, None, sum_by, sym, refl, ap, ◌∙◌, inl, inr, arith}
-use Rattle.std.specs.List.{slice_get}
-use Rattle.std.proofs.lemmas.List.{take_all}
-use Rattle.std.proofs.lemmas.Option.{slice_get-get_or, slice_get_past}
-use Rattle.std.proofs.lemmas.List.Sums.{sum_by_more}
-use Rattle.std.proofs.lemmas.Bool.{cases_lt}
+-- The work of the packets of a buffer, and of all buffers. Assumes nothing.
+use Rattle.std.proofs.Common.{◌≡◌, ℕ, zero, suc, ◌+◌, ◌*◌, ◌≤◌, List, [], ◌∷◌, length, Some, None, sum_by, Option, refl, ap, ◌∙◌, add-one, arith}
+use Rattle.std.specs.List.{range_with_len}
+use Rattle.std.proofs.lemmas.List.Sums.{sum_by-cons}
 use Rattle.queue.specs.declared.packet.Packet.{Packet}
 use Rattle.queue.specs.declared.queues.Queues.{Queues}
-use Rattle.queue.specs.Contents.{contents, contents_from, all_contents}
+use Rattle.queue.specs.Contents.{contents, contents_from}
+use Rattle.queue.proofs.Buffers.{contents_within}
 use Rattle.network.specs.Network.{Network}
-use Rattle.switch.specs.Buffers.{total_from, packet_work, work_left}
-use Rattle.cycle.specs.declared.sizes.Sizes.{Sizes}
-use Rattle.cycle.specs.Measures.{buffers_in}
+use Rattle.network.specs.Laws.{Bounds}
+use Rattle.network.proofs.Consequences.{bounds_of}
+use Rattle.table.specs.TableLaws.{table_lawful}
+use Rattle.switch.specs.Places.{location}
+use Rattle.switch.specs.Buffers.{distance_from, total_from, packet_work, work_left}
+use Rattle.fabric.specs.declared.fabric.Fabric.{Fabric}
+use Rattle.fabric.specs.Fabrics.{network_in, depth_in, state_of}
 
--- The element at place k, if any, is one more in the sum.
-pub sum_some : {X : Type 0} (f : X → ℕ) (xs : List X) (k : ℕ) (x : X) → slice_get xs k ≡ Some x → sum_by f (take (k + 1) xs) ≡ sum_by f (take k xs) + f x
-sum_some {X} f xs k x e = go (cases_lt k (length xs))
-  where
-    go : (k < length xs) ⊎ (length xs ≤ k) → sum_by f (take (k + 1) xs) ≡ sum_by f (take k xs) + f x
-    go (inl h) =
-        let n = slice_get-get_or xs k x h in
-        let same : get_or xs k x ≡ x = cc in
-        sum_by_more f xs k x h ∙ ap (λ (y : X). sum_by f (take k xs) + f y) same
-    go (inr h) =
-        let n = slice_get_past xs k h in
-        let z : ◌≡◌ {A = ℕ} 0 1 = cc in
-        absurd (let y : ⊥ = omega arith in y)
-
--- There is an element at every place before the end.
-none_past : {X : Type 0} (xs : List X) (k : ℕ) → slice_get xs k ≡ None → k < length xs → ⊥
-none_past [] k e h = omega arith
-none_past (x ∷ xs) k e h = let n = slice_get-get_or (x ∷ xs) k x h in let z : ◌≡◌ {A = ℕ} 0 1 = cc in omega arith
-
-pub sum_none : {X : Type 0} (f : X → ℕ) (xs : List X) (k : ℕ) → slice_get xs k ≡ None → sum_by f (take (k + 1) xs) ≡ sum_by f (take k xs)
-sum_none {X} f xs k e = go (cases_lt k (length xs))
-  where
-    go : (k < length xs) ⊎ (length xs ≤ k) → sum_by f (take (k + 1) xs) ≡ sum_by f (take k xs)
-    go (inr h) = ap (λ (ys : List X). sum_by f ys) (take_all (k + 1) xs (omega arith) ∙ sym (take_all k xs h))
-    go (inl h) = absurd (none_past xs k e h)
-
--- One more buffer.
-total_more : (f : ℕ → Packet → ℕ) (queues : Queues) (depth i k : ℕ)
-    → total_from f i (contents_from queues depth i (suc k)) ≡ total_from f i (contents_from queues depth i k) + sum_by (f (i + k)) (contents queues depth (i + k))
+-- The sum over the buffers, one after another.
+total_is : (f : ℕ → Packet → ℕ) (queues : Queues) (depth i n : ℕ) → sum_by (λ b. sum_by (f b) (contents queues depth b)) (range_with_len i n) ≡ total_from f i (contents_from queues depth i n)
 unfolding contents_from
-total_more f queues depth i zero =
-    let e : i + 0 ≡ i = omega arith in
-    let s : sum_by (f (i + 0)) (contents queues depth (i + 0)) ≡ sum_by (f i) (contents queues depth i) = ap (λ (j : ℕ). sum_by (f j) (contents queues depth j)) e in
-    omega arith
-total_more f queues depth i (suc k) =
-    let r = total_more f queues depth (suc i) k in
-    let e : suc i + k ≡ i + suc k = omega arith in
-    let s : sum_by (f (suc i + k)) (contents queues depth (suc i + k)) ≡ sum_by (f (i + suc k)) (contents queues depth (i + suc k)) = ap (λ (j : ℕ). sum_by (f j) (contents queues depth j)) e in
+total_is f queues depth i zero = refl
+total_is f queues depth i (suc n) =
+    sum_by-cons (λ b. sum_by (f b) (contents queues depth b)) i (range_with_len (i + 1) n)
+    ∙ ap (λ (x : ℕ). sum_by (f i) (contents queues depth i) + x)
+    (ap (λ (j : ℕ). sum_by (λ b. sum_by (f b) (contents queues depth b)) (range_with_len j n)) (add-one i) ∙ total_is f queues depth (suc i) n)
+
+-- Each packet leaves little work.
+distance_few : (net : Network) → Bounds net → (at : Option ℕ) (d : ℕ) → distance_from net at d ≤ 64
+distance_few net bounds None d = omega arith
+distance_few net bounds (Some n) d = bounds.distance_bound n d
+
+packets_few : (net : Network) → Bounds net → (b : ℕ) (qs : List Packet) → sum_by (packet_work net b) qs ≤ 65 * length qs
+packets_few net bounds b [] = omega arith
+packets_few net bounds b (q ∷ qs) =
+    let a = sum_by-cons (packet_work net b) q qs in
+    let d = distance_few net bounds (location net b) q.destination in
+    let r = packets_few net bounds b qs in
     omega arith
 
--- The work of the first b buffers.
-pub work_none : (net : Network) (queues : Queues) (depth : ℕ) → total_from (packet_work net) 0 (all_contents queues depth 0) ≡ 0
-unfolding contents_from
-work_none net queues depth = refl
+module _ {R A : Type 0} (f : Fabric R A) where
+  -- The work of the packets of a buffer,
+  abbrev pub work_at : ℕ → ℕ
+  work_at b = sum_by (packet_work (network_in f) b) (contents f.body.queues (depth_in f) b)
 
-pub work_more : (net : Network) (queues : Queues) (depth b : ℕ)
-    → total_from (packet_work net) 0 (all_contents queues depth (b + 1)) ≡ total_from (packet_work net) 0 (all_contents queues depth b) + sum_by (packet_work net b) (contents queues depth b)
-work_more net queues depth b =
-    let one : b + 1 ≡ suc b = omega arith in
-    let here : 0 + b ≡ b = omega arith in
-    ap (λ (k : ℕ). total_from (packet_work net) 0 (all_contents queues depth k)) one
-    ∙ total_more (packet_work net) queues depth 0 b
-    ∙ ap (λ (k : ℕ). total_from (packet_work net) 0 (all_contents queues depth b) + sum_by (packet_work net k) (contents queues depth k)) here
+  pub buffer_few : (b : ℕ) → work_at b ≤ 260
+  buffer_few b =
+      let w = packets_few (network_in f) (bounds_of (network_in f) (table_lawful f.table)) b (contents f.body.queues (depth_in f) b) in
+      let l = contents_within f.body.queues (depth_in f) b f.sound in
+      let s = f.fits.shallow in
+      omega arith
 
-pub work_all : (net : Network) (queues : Queues) (sizes : Sizes) (b : ℕ) → b ≡ sizes.buffers
-    → total_from (packet_work net) 0 (all_contents queues sizes.depth b) ≡ work_left net (buffers_in sizes queues)
-unfolding work_left
-work_all net queues sizes b e = ap (λ (k : ℕ). total_from (packet_work net) 0 (all_contents queues sizes.depth k)) e
+  -- and of all.
+  buffers_few_from : (i n : ℕ) → sum_by work_at (range_with_len i n) ≤ 260 * n
+  buffers_few_from i zero = omega arith
+  buffers_few_from i (suc n) =
+      let a = sum_by-cons work_at i (range_with_len (i + 1) n) in
+      let b = buffer_few i in
+      let r = buffers_few_from (i + 1) n in
+      omega arith
+
+  pub all_few : (n : ℕ) → sum_by work_at (range_with_len 0 n) ≤ 260 * n
+  all_few = buffers_few_from 0
+
+  pub all_work : sum_by work_at (range_with_len 0 f.body.sizes.buffers) ≡ work_left (network_in f) (state_of f).buffers
+  unfolding work_left
+  all_work = total_is (packet_work (network_in f)) f.body.queues (depth_in f) 0 f.body.sizes.buffers

@@ -6,9 +6,7 @@ use Rattle.switch.specs.declared.feed_state.FeedState.TheVariants.{Unopened}
 use Rattle.switch.specs.Calls.{SwitchState, Event}
 use Rattle.switch.specs.Invariant.{Invariant}
 use Rattle.cycle.specs.declared.sizes.Sizes.{Sizes}
-use Rattle.cycle.specs.declared.standing.Standing.{Standing}
-use Rattle.cycle.specs.Measures.{Fits, buffers_in}
-use Rattle.cycle.specs.Chains.{Stands}
+use Rattle.cycle.specs.Measures.{buffers_in}
 use Rattle.fabric.specs.declared.body.Body.{Body}
 
 -- The state of the switch.
@@ -23,11 +21,8 @@ state_in a body = record {
   arbiter = a;
 }
 
--- The sizes and the chains are those of the network, the queues are sound, and the state is what some history leaves.
-pub record Ready {Arb : Type 0} (net : Network) (a : Arb) (body : Body) (standing : Standing) : Type 0 where
-  pub fits : Fits net body.sizes
-  pub stands : Stands net standing
-  pub sound : Sound body.queues body.sizes.depth
+-- The state is what some history leaves.
+pub record Reached {Arb : Type 0} (net : Network) (a : Arb) (body : Body) : Type 0 where
   pub history : List Event
   pub invariant : Invariant net body.sizes.depth history (state_in a body)
 

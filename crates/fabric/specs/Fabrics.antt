@@ -1,5 +1,5 @@
 -- What a fabric means, and what its calls promise. Assumes nothing.
-use Rattle.std.specs.Prelude.{◌≡◌, ℕ, List, Some, None, Ok, Err, Option, Result}
+use Rattle.std.specs.Prelude.{◌≡◌, ℕ, List, Some, None, Ok, Err, Result}
 use Rattle.network.specs.Network.{Network}
 use Rattle.arbiter.specs.Rule.{Rule}
 use Rattle.table.specs.Tables.{network_of}
@@ -11,9 +11,9 @@ use Rattle.fabric.specs.declared.fabric.Fabric.{Fabric}
 use Rattle.fabric.specs.declared.fabric.NotMade.{NotMade}
 use Rattle.fabric.specs.declared.feed.Feed.{Feed}
 use Rattle.fabric.specs.declared.refusal.Refusal.{Refusal}
-use Rattle.fabric.specs.Refusals.{refusal_number, number_if}
+use Rattle.fabric.specs.Refusals.{refusal_number}
 use Rattle.fabric.specs.Bodies.{state_in}
-use Rattle.fabric.specs.Turns.{Traced}
+use Rattle.fabric.specs.Traces.{Traced}
 
 -- The network of a fabric, the depth of its buffers, and the state of the switch that it is.
 abbrev pub network_in : {R A : Type 0} → Fabric R A → Network
@@ -40,9 +40,14 @@ pub record Refused {R A : Type 0} (net : Network) (depth : ℕ) (routing : R) (a
   pub routing_is : e.routing ≡ routing
   pub arbiter_is : e.arbiter ≡ arbiter
 
--- What the questions of make answer.
-abbrev pub MakeAsked : Network → ℕ → Option Refusal → Type 0
-MakeAsked net depth r = first_refusal (make_questions net depth) ≡ number_if r
+-- No question of make fails.
+abbrev pub MayMake : Network → ℕ → Type 0
+MayMake net depth = first_refusal (make_questions net depth) ≡ None
+
+-- What asking the questions of make answers: that none fails, or the refusal of the first that does.
+abbrev pub MakeAsked : {U : Type 0} → Network → ℕ → Result U Refusal → Type 0
+MakeAsked net depth (Ok u) = MayMake net depth
+MakeAsked net depth (Err e) = first_refusal (make_questions net depth) ≡ Some (refusal_number e)
 
 abbrev pub Making : {R A : Type 0} → Network → Rule A → ℕ → R → A → Result (Fabric R A) (NotMade R A) → Type 0
 Making net rule depth routing arbiter (Ok f) = Made net rule depth routing arbiter f
@@ -78,10 +83,10 @@ pub record Answered {R A : Type 0} (rule : Rule A) (c : Call) (old new : Fabric 
 abbrev pub May : {R A : Type 0} → Call → Fabric R A → Type 0
 May c f = first_refusal (questions standard_limits (network_in f) (depth_in f) c (state_of f)) ≡ None
 
--- What asking the questions of a call answers: none where none fails, else a refusal that is the answer of the call.
-abbrev pub Asked : {R A : Type 0} → Rule A → Call → Fabric R A → Option Refusal → Type 0
-Asked rule c f None = May c f
-Asked rule c f (Some e) = Answered rule c f f (refused (refusal_number e))
+-- What asking the questions of a call answers: that none fails, or a refusal that is the answer of the call.
+abbrev pub Asked : {R A U : Type 0} → Rule A → Call → Fabric R A → Result U Refusal → Type 0
+Asked rule c f (Ok u) = May c f
+Asked rule c f (Err e) = Answered rule c f f (refused (refusal_number e))
 
 -- The trace of a cycle: its grants at the front and the rest as it was, or all as it was.
 abbrev pub Trace : {R A : Type 0} → Rule A → Fabric R A → List Grant → List Grant → Result ℕ Refusal → Type 0

@@ -1,4 +1,4 @@
 pub mod Refusals
 pub mod Bodies
-pub mod Turns
+pub mod Traces
 pub mod Fabrics

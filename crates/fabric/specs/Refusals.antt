@@ -1,5 +1,5 @@
 -- The numbers of the refusals. Assumes nothing.
-use Rattle.std.specs.Prelude.{ℕ, Some, None, Option}
+use Rattle.std.specs.Prelude.{ℕ}
 use Rattle.fabric.specs.declared.refusal.Refusal.{Refusal}
 use Rattle.fabric.specs.declared.refusal.Refusal.TheVariants.{NoNodes, Depth, Slots, OpenedBefore, NotOpen, Source, Destination, PacketLimit, Full, ShortTrace, CycleLimit, NotClosed}
 
@@ -16,8 +16,3 @@ refusal_number Full = 9
 refusal_number ShortTrace = 10
 refusal_number CycleLimit = 11
 refusal_number NotClosed = 12
-
--- The number of a refusal, if there is one.
-abbrev pub number_if : Option Refusal → Option ℕ
-number_if None = None
-number_if (Some e) = Some (refusal_number e)

@@ -52,7 +52,7 @@ impl Body {
             destination,
             hops: 0,
         };
-        let _ = self.queues.push(self.sizes.depth, b, packet);
+        self.queues.push(self.sizes.depth, b, packet).unwrap();
         self.taken = number + 1;
         number
     }

@@ -1,15 +1,19 @@
 // A fabric. What it holds is what some history of its calls leaves.
 ghost use Rattle.std.specs.Prelude.{◌≤◌};
 ghost use Rattle.table.specs.Tables.{network_of};
-ghost use Rattle.fabric.specs.Bodies.{Ready};
+ghost use Rattle.queue.specs.Contents.{Sound};
+ghost use Rattle.cycle.specs.Measures.{Fits};
+ghost use Rattle.cycle.specs.Chains.{Stands};
+ghost use Rattle.fabric.specs.Bodies.{Reached};
 
 use crate::body::Body;
 use crate::refusal::Refusal;
 use cycle::{Scratch, Standing};
 use table::Table;
 
-// The routing and the arbiter as they were handed over, the routing's answers in a table, on which the calls run, and the
-// body. The bars make a proposition of the invariant, as a ghost field must be.
+// The routing and the arbiter as they were handed over; the routing's answers in a table, on which the calls run; the body;
+// and the buffers that stand at each node. Sizes and chains are those of the table's network, the queues are sound, and
+// the state is what some history leaves, where the bars make a proposition of it, as a ghost field must be.
 #[derive(Drop)]
 pub struct Fabric<R, A> {
     routing: R,
@@ -18,7 +22,10 @@ pub struct Fabric<R, A> {
     body: Body,
     standing: Standing,
     scratch: Scratch,
-    ghost ready: { ∥ Ready (network_of table) arbiter body standing ∥₁ },
+    ghost fits: { Fits (network_of table) body.sizes },
+    ghost stands: { Stands (network_of table) standing },
+    ghost sound: { Sound body.queues body.sizes.depth },
+    ghost reached: { ∥ Reached (network_of table) arbiter body ∥₁ },
     ghost few: { body.taken ≤ 60000 },
 }
 
@@ -34,5 +41,6 @@ mod cycling;
 mod feeding;
 mod making;
 mod reporting;
+mod working;
 
 pub use making::make;

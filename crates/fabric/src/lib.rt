@@ -6,8 +6,6 @@ mod body;
 mod fabric;
 mod feed;
 mod refusal;
-mod turning;
-mod working;
 
 pub use fabric::{Fabric, NotMade, make};
 pub use feed::Feed;

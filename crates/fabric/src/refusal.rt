@@ -6,49 +6,36 @@ ghost use Rattle.fabric.specs.Refusals.{refusal_number};
 #[derive(Clone, Copy, PartialEq, Eq, Debug)]
 pub enum Refusal {
     // The routing has no nodes.
-    NoNodes,
+    NoNodes = 1,
     // The depth is not 1 to 4.
-    Depth,
+    Depth = 2,
     // The buffers have more than 2,048 slots together.
-    Slots,
+    Slots = 3,
     // The feed was opened before.
-    OpenedBefore,
+    OpenedBefore = 4,
     // The feed is not open.
-    NotOpen,
+    NotOpen = 5,
     // The source is not a node.
-    Source,
+    Source = 6,
     // The destination is not a node.
-    Destination,
+    Destination = 7,
     // 60,000 packets were taken in.
-    PacketLimit,
+    PacketLimit = 8,
     // The injection buffer is full.
-    Full,
+    Full = 9,
     // The trace has no room for the grants of a cycle.
-    ShortTrace,
+    ShortTrace = 10,
     // 1,000,000 cycles were performed, or a drain could exceed them.
-    CycleLimit,
+    CycleLimit = 11,
     // The feed is not closed.
-    NotClosed,
+    NotClosed = 12,
 }
 
 impl Refusal {
-    // The number of the refusal, 1 to 12.
+    // The number of the refusal, 1 to 12. A method, as that of a labelling's refusal.
     pub fn number(self) -> u8
         ensures { result ≡ refusal_number self }
     {
-        match self {
-            Refusal::NoNodes => 1,
-            Refusal::Depth => 2,
-            Refusal::Slots => 3,
-            Refusal::OpenedBefore => 4,
-            Refusal::NotOpen => 5,
-            Refusal::Source => 6,
-            Refusal::Destination => 7,
-            Refusal::PacketLimit => 8,
-            Refusal::Full => 9,
-            Refusal::ShortTrace => 10,
-            Refusal::CycleLimit => 11,
-            Refusal::NotClosed => 12,
-        }
+        self as u8
     }
 }

@@ -1,7 +1,6 @@
 -- What all buffers of a table hold, as a list. Assumes nothing.
-use Rattle.std.proofs.Common.{◌≡◌, ℕ, zero, suc, ◌+◌, ◌<◌, ◌≤◌, ◌≢◌, List, [], ◌∷◌, length, get_or, set, replicate, sym, refl, ap, ◌∙◌, ap₂, ⊎_elim, add-zero, zero-add, arith, length-set}
+use Rattle.std.proofs.Common.{◌≡◌, ℕ, zero, suc, ◌+◌, ◌<◌, ◌≤◌, ◌≢◌, List, [], ◌∷◌, length, get_or, set, replicate, sym, refl, ap, ◌∙◌, ap₂, add-zero, zero-add, arith, length-set}
 use Rattle.std.proofs.lemmas.List.{ext_get_or, get_or-set_same, get_or-set_other}
-use Rattle.std.proofs.lemmas.Bool.{cases_eq}
 use Rattle.queue.specs.declared.packet.Packet.{Packet}
 use Rattle.queue.specs.declared.queues.Queues.{Queues}
 use Rattle.queue.specs.Contents.{contents, contents_from, all_contents, queue_of, run_of, Sound}
@@ -43,15 +42,7 @@ all_contents_set old new depth b packets here others t =
     let was : length (all_contents old depth t) ≡ t = length_all_contents old depth t in
     let is : length (all_contents new depth t) ≡ t = length_all_contents new depth t in
     ext_get_or [] (all_contents new depth t) (set (all_contents old depth t) b packets) (is ∙ sym (length-set (all_contents old depth t) b packets ∙ was))
-    (λ a h.
-    let lt : a < t = omega arith in
-    ⊎_elim
-    (λ (e : a ≡ b).
-    let within : b < length (all_contents old depth t) = omega arith in
-    getD_all_contents new depth t a lt ∙ (ap (contents new depth) e ∙ (here ∙ sym (ap (λ k. get_or (set (all_contents old depth t) b packets) k []) e ∙ get_or-set_same (all_contents old depth t) b packets [] within))))
-    (λ (ne : a ≢ b).
-    getD_all_contents new depth t a lt ∙ (others a ne ∙ sym (get_or-set_other (all_contents old depth t) b a packets [] ne ∙ getD_all_contents old depth t a lt)))
-    (cases_eq a b))
+    (λ a h. grind (arith, getD_all_contents, get_or-set_same, get_or-set_other, others))
 
 -- every buffer is empty
 pub contents_from_none : (queues : Queues) (depth b : ℕ) → ((a : ℕ) → contents queues depth a ≡ []) → (n : ℕ) → contents_from queues depth b n ≡ replicate n []

@@ -2,3 +2,4 @@
 pub mod Rings
 pub mod Frames
 pub mod Buffers
+pub mod Lefts

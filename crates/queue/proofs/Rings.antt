@@ -1,9 +1,8 @@
 -- What a queue holds after a packet is appended or taken out. Assumes nothing.
-use Rattle.std.proofs.Common.{◌≡◌, ℕ, zero, suc, ◌+◌, ◌-◌, ◌<◌, ◌≤◌, ◌≢◌, List, [], ◌∷◌, ◌++◌, length, get_or, set, Some, None, sym, refl, ap, ◌∙◌, ⊎_elim, add-zero, add-suc, suc-add, add-one, arith, length-set}
+use Rattle.std.proofs.Common.{◌≡◌, ℕ, zero, suc, ◌+◌, ◌-◌, ◌<◌, ◌≤◌, ◌≢◌, List, [], ◌∷◌, ◌++◌, length, get_or, set, Some, None, sym, refl, ap, ◌∙◌, add-zero, add-suc, suc-add, arith, length-set}
 use Rattle.std.specs.List.{slice_get}
 use Rattle.std.proofs.lemmas.List.{get_or-set_same, get_or-set_other}
 use Rattle.std.proofs.lemmas.Option.{slice_get_past}
-use Rattle.std.proofs.lemmas.Bool.{cases_lt}
 use Rattle.std.proofs.lemmas.Bool.Decides.{nat_tests}
 use Rattle.queue.specs.declared.packet.Packet.{Packet}
 use Rattle.queue.specs.Held.{no_packet, wrapped, around}
@@ -36,11 +35,7 @@ around_set run i (suc n) j p h =
 
 -- a packet written into the slot after the last
 pub append_holds : (run : List Packet) (i n back : ℕ) (p : Packet) → i < length run → n < length run → back ≡ wrapped (length run) (i + n) → around (set run back p) i (n + 1) ≡ around run i n ++ (p ∷ [])
-append_holds run i n back p hi hn e =
-    let lt : wrapped (length run) (i + n) < length run = wrapped_within (length run) (i + n) (omega arith) in
-    let others = around_set run i n (wrapped (length run) (i + n)) p (λ k h. apart (length run) i k n hi h hn) in
-    let last = get_or-set_same run (wrapped (length run) (i + n)) p no_packet lt in
-    rw (e, add-one, around_more, length-set, others, last)
+append_holds run i n back p hi hn e = grind (arith, around_set, around_more, apart, wrapped_within, get_or-set_same, length-set)
 
 -- past the end of the run are the slots from its start on
 around_past : (run : List Packet) (j n : ℕ) → j + n ≤ length run → around run (length run + j) n ≡ around run j n
@@ -53,23 +48,14 @@ around_past run j (suc n) h =
 -- the places of a run are the same after its end as before
 around_wrapped : (run : List Packet) (i n : ℕ) → i ≤ length run → n ≤ length run → around run (wrapped (length run) i) n ≡ around run i n
 around_wrapped run i n hi hn =
-    ⊎_elim
-    (λ (lt : i < length run). ap (λ k. around run k n) (wrapped_below (length run) i lt))
-    (λ (ge : length run ≤ i).
-    let start : wrapped (length run) i ≡ 0 = grind (arith, nat_tests) in
-    let past : length run + 0 ≡ i = omega arith in
-    ap (λ k. around run k n) start ∙ (sym (around_past run 0 n (omega arith)) ∙ ap (λ k. around run k n) past))
-    (cases_lt i (length run))
+    let past = around_past run 0 n in
+    grind (arith, past, nat_tests)
 
 -- the first packet taken out
 pub remove_holds : (run : List Packet) (i n first next : ℕ) → i < length run → 0 < n → n ≤ length run → first ≡ i → next ≡ wrapped (length run) (i + 1)
     → around run i n ≡ get_or run first no_packet ∷ around run next (n - 1)
 remove_holds run i zero first next hi some hn e f = absurd (omega arith)
-remove_holds run i (suc n) first next hi some hn e f =
-    let less : suc n - 1 ≡ n = omega arith in
-    let here : wrapped (length run) i ≡ i = wrapped_below (length run) i hi in
-    let rest = around_wrapped run (i + 1) n (omega arith) (omega arith) in
-    rw (e, f, less, rest, add-one, here)
+remove_holds run i (suc n) first next hi some hn e f = grind (arith, wrapped_below, around_wrapped)
 
 -- a queue holds as many packets as its record says
 pub length_around : (run : List Packet) (i n : ℕ) → length (around run i n) ≡ n

@@ -1,10 +1,11 @@
 -- What the buffers of a table hold, and what a push and a pop change. Assumes nothing.
-use Rattle.std.specs.Prelude.{◌≡◌, ℕ, zero, suc, ◌*◌, ◌<◌, ◌≤◌, Bool, true, false, ◌≢◌, List, [], ◌∷◌, ◌++◌, length, take, drop, replicate, Option, slice_index_or, slice_set}
+use Rattle.std.specs.Prelude.{◌≡◌, ℕ, zero, suc, ◌*◌, ◌<◌, ◌≤◌, ◌≢◌, List, [], ◌∷◌, ◌++◌, length, take, drop, replicate, Option, Result, Ok, Err, slice_index_or, slice_set}
 use Rattle.std.specs.List.{slice_get}
+use Rattle.queue.specs.declared.full.Full.{Full}
 use Rattle.queue.specs.declared.packet.Packet.{Packet}
 use Rattle.queue.specs.declared.queue.Queue.{Queue}
 use Rattle.queue.specs.declared.queues.Queues.{Queues}
-use Rattle.queue.specs.Held.{no_queue, held, Within}
+use Rattle.queue.specs.Held.{no_queue, no_room, held, Within}
 
 -- The record of the buffer b.
 abbrev pub queue_of : Queues → ℕ → Queue
@@ -45,9 +46,9 @@ pub record Changed (old new : Queues) (depth b : ℕ) (packets : List Packet) : 
 
 -- A push into the buffer b, and its answer: with room, the packet has joined the buffer at its end; without room,
 -- nothing has changed.
-pub record Pushed (old new : Queues) (depth b : ℕ) (packet : Packet) (answer : Bool) : Type 0 where
-  pub room : length (contents old depth b) < depth → (answer ≡ true) × Changed old new depth b (contents old depth b ++ (packet ∷ []))
-  pub full : depth ≤ length (contents old depth b) → (answer ≡ false) × (new ≡ old)
+pub record Pushed (old new : Queues) (depth b : ℕ) (packet : Packet) (answer : Result (Unit {0}) Full) : Type 0 where
+  pub room : length (contents old depth b) < depth → (answer ≡ Ok tt) × Changed old new depth b (contents old depth b ++ (packet ∷ []))
+  pub full : depth ≤ length (contents old depth b) → (answer ≡ Err no_room) × (new ≡ old)
   pub sound : Sound new depth
 
 -- A pop from the buffer b, and its answer: the first packet has left the buffer; where there was none, nothing has

@@ -1,11 +1,16 @@
 -- What a queue holds. Assumes nothing.
 use Rattle.std.specs.Prelude.{ℕ, zero, suc, ◌-◌, ◌<◌, ◌≤◌, cond, List, [], ◌∷◌, length, nat_lt, slice_index_or}
+use Rattle.queue.specs.declared.full.Full.{Full}
 use Rattle.queue.specs.declared.packet.Packet.{Packet}
 use Rattle.queue.specs.declared.queue.Queue.{Queue}
 
 -- What an unused slot holds, and what is read past the end of a list.
 abbrev pub no_packet : Packet
 no_packet = record { number = 0; source = 0; destination = 0; hops = 0 }
+
+-- What a push into a full queue answers.
+abbrev pub no_room : Full
+no_room = record {}
 
 -- The slot x places on from the start of a run of len slots; past its end the run goes on at its start.
 abbrev pub wrapped : ℕ → ℕ → ℕ

@@ -1,18 +1,17 @@
 // The buffers of a switch, in one table of records and one array of slots.
-ghost use Rattle.std.specs.Prelude.{◌≡◌, ℕ, ◌+◌, ◌*◌, ◌<◌, ◌≤◌, List, length, replicate};
+ghost use Rattle.std.specs.Prelude.{◌≡◌, ℕ, ◌+◌, ◌*◌, ◌<◌, ◌≤◌, length, replicate};
 ghost use Rattle.std.specs.List.{slice_get};
-ghost use Rattle.queue.specs.declared.packet.Packet.{Packet};
-ghost use Rattle.queue.specs.declared.queues.Queues.{Queues};
 ghost use Rattle.queue.specs.Held.{no_packet, no_queue, held};
+ghost use Rattle.queue.specs.Left.{packets_left};
 ghost use Rattle.queue.specs.Contents.{contents, Sound, Empty, Pushed, Popped};
 
-use crate::queue::{at, pop, push};
-use crate::{Packet, Queue};
+use crate::{Full, Packet, Packets, Queue};
 
 // There are this many slots, and no more buffers than slots.
 const SLOTS: usize = 2048;
 
-// What an unused slot holds.
+// What an unused slot holds. Kept as a constant, since of an array of `Packet::default()` the check does not find the
+// clause `slots` of `new` by itself.
 const NO_PACKET: Packet = Packet {
     number: 0,
     source: 0,
@@ -21,8 +20,9 @@ const NO_PACKET: Packet = Packet {
 };
 
 // Each buffer has a record and `depth` slots of its own, 1 to 4: the run of slots of the buffer b starts at b × depth.
-// The calls take the depth, which their caller keeps. They require a small depth, a buffer whose slots are in range, and
-// sound records: the invariant of the fabric that owns the table meets this.
+// The struct is plain, since the form of the table is fixed: the depth and the soundness of the records are its callers',
+// and so the calls take the depth, and require a buffer whose slots are in range and sound records, and where they write, a
+// small depth.
 #[derive(Clone, Drop)]
 pub struct Queues {
     queues: [Queue; SLOTS],
@@ -37,55 +37,33 @@ impl Queues {
         ensures empty { Empty result }
     {
         Queues {
-            queues: empty_queues(),
+            queues: [Queue::new(); SLOTS],
             slots: [NO_PACKET; SLOTS],
         }
     }
 
-    // Appends a packet to the buffer b if there is room for it, and answers whether there was.
-    pub fn push(&mut self, depth: usize, b: usize, packet: Packet) -> bool
+    // Appends a packet to the buffer b if there is room for it.
+    #[tactic(auto, using(crate::proofs::Frames::lending))]
+    pub fn push(&mut self, depth: usize, b: usize, packet: Packet) -> Result<(), Full>
         requires shallow { depth ≤ 4 }
         requires in_range { b * depth + depth ≤ 2048 }
         requires sound { Sound self.old depth }
         ensures { Pushed self.old self.new depth b packet result }
     {
-        self.push_run(b * depth, depth, b, packet)
-    }
-
-    // The same, where the run of slots of the buffer b starts at `start`.
-    fn push_run(&mut self, start: usize, depth: usize, b: usize, packet: Packet) -> bool
-        requires start { start ≡ b * depth }
-        requires shallow { depth ≤ 4 }
-        requires in_range { start + depth ≤ 2048 }
-        requires sound { Sound self.old depth }
-        ensures { Pushed self.old self.new depth b packet result }
-    {
-        push(
-            &mut self.queues[b],
-            &mut self.slots[start..start + depth],
-            packet,
-        )
+        let start = b * depth;
+        self.queues[b].push(&mut self.slots[start..start + depth], packet)
     }
 
     // Takes the first packet out of the buffer b, if it holds one.
+    #[tactic(auto, using(crate::proofs::Frames::lending))]
     pub fn pop(&mut self, depth: usize, b: usize) -> Option<Packet>
         requires shallow { depth ≤ 4 }
         requires in_range { b * depth + depth ≤ 2048 }
         requires sound { Sound self.old depth }
         ensures { Popped self.old self.new depth b result }
     {
-        self.pop_run(b * depth, depth, b)
-    }
-
-    // The same, where the run of slots of the buffer b starts at `start`.
-    fn pop_run(&mut self, start: usize, depth: usize, b: usize) -> Option<Packet>
-        requires start { start ≡ b * depth }
-        requires shallow { depth ≤ 4 }
-        requires in_range { start + depth ≤ 2048 }
-        requires sound { Sound self.old depth }
-        ensures { Popped self.old self.new depth b result }
-    {
-        pop(&mut self.queues[b], &mut self.slots[start..start + depth])
+        let start = b * depth;
+        self.queues[b].pop(&mut self.slots[start..start + depth])
     }
 
     // The first packet of the buffer b, if it holds one.
@@ -104,7 +82,21 @@ impl Queues {
         ensures { result ≡ slice_get (contents self.now depth b) k }
     {
         let start = b * depth;
-        at(&self.queues[b], &self.slots[start..start + depth], k)
+        self.queues[b].at(&self.slots[start..start + depth], k)
+    }
+
+    // The packets of the buffer b, the first one first.
+    pub fn packets(&self, depth: usize, b: usize) -> Packets<'_>
+        requires in_range { b * depth + depth ≤ 2048 }
+        requires sound { Sound self.now depth }
+        ensures { packets_left result ≡ contents self.now depth b }
+    {
+        let start = b * depth;
+        Packets {
+            queue: self.queues[b],
+            run: &self.slots[start..start + depth],
+            k: 0,
+        }
     }
 
     // How many packets the buffer b holds, whatever the depth.
@@ -112,21 +104,6 @@ impl Queues {
         requires { b < 2048 }
         ensures { (depth : ℕ) → result ≡ length (contents self.now depth b) }
     {
-        held_count(&self.queues[b])
+        self.queues[b].len()
     }
-}
-
-// The records of empty queues: whatever the slots hold, no buffer holds a packet.
-fn empty_queues() -> [Queue; SLOTS]
-    ensures state { result ≡ replicate 2048 no_queue }
-    ensures empty { (slots : List Packet) → Empty (record { queues = result; slots = slots }) }
-{
-    [Queue::new(); SLOTS]
-}
-
-// How many packets a queue holds, whatever its run of slots.
-fn held_count(queue: &Queue) -> usize
-    ensures { (run : List Packet) → result ≡ length (held queue.now run) }
-{
-    queue.len()
 }

@@ -16,14 +16,13 @@ impl<R: Routing, A: Arbiter> Fabric<R, A> {
     pub fn open(&mut self) -> Result<Feed, Refusal>
         ensures { Answered A.rule open_feed self.old self.new (opened result) }
     {
-        if let Some(refusal) = self.open_refusal() {
-            return Err(refusal);
-        }
+        self.may_open()?;
         self.mark_open();
         Ok(Feed::new())
     }
 
-    // Takes a packet in at its source, and answers its number, counted from 0.
+    // Takes a packet in at its source, and answers its number, counted from 0. Source and destination are two numbers, since
+    // the form of the call is fixed.
     pub fn inject(
         &mut self,
         _feed: &Feed,
@@ -32,9 +31,7 @@ impl<R: Routing, A: Arbiter> Fabric<R, A> {
     ) -> Result<usize, Refusal>
         ensures { Answered A.rule (inject source destination) self.old self.new (numbered result) }
     {
-        if let Some(refusal) = self.inject_refusal(source, destination) {
-            return Err(refusal);
-        }
+        self.may_inject(source, destination)?;
         Ok(self.take_in(source, destination))
     }
 
@@ -43,21 +40,19 @@ impl<R: Routing, A: Arbiter> Fabric<R, A> {
         ensures { Answered A.rule close_feed self.old self.new (closed result) }
     {
         feed.spend();
-        if let Some(refusal) = self.close_refusal() {
-            return Err(refusal);
-        }
+        self.may_close()?;
         self.mark_closed();
         Ok(())
     }
 
-    // Was the feed not opened before?
-    fn open_refusal(&self) -> Option<Refusal>
+    // Was the feed not opened before? Each question speaks of its own call of the definition, and so do the marks below.
+    fn may_open(&self) -> Result<(), Refusal>
         ensures { Asked A.rule open_feed self.now result }
     {
-        match self.body.feed {
-            FeedState::Unopened => None,
-            _ => Some(Refusal::OpenedBefore),
+        if self.body.feed != FeedState::Unopened {
+            return Err(Refusal::OpenedBefore);
         }
+        Ok(())
     }
 
     // The feed of a fabric that was not opened before is open.
@@ -70,27 +65,26 @@ impl<R: Routing, A: Arbiter> Fabric<R, A> {
 
     // Is the feed open, are source and destination nodes, were fewer than 60,000 packets taken in, and has the injection
     // buffer room?
-    fn inject_refusal(&self, source: usize, destination: usize) -> Option<Refusal>
+    fn may_inject(&self, source: usize, destination: usize) -> Result<(), Refusal>
         ensures { Asked A.rule (inject source destination) self.now result }
     {
-        match self.body.feed {
-            FeedState::Open => {}
-            _ => return Some(Refusal::NotOpen),
+        if self.body.feed != FeedState::Open {
+            return Err(Refusal::NotOpen);
         }
         let sizes = self.body.sizes;
         if source >= sizes.nodes {
-            return Some(Refusal::Source);
+            return Err(Refusal::Source);
         }
         if destination >= sizes.nodes {
-            return Some(Refusal::Destination);
+            return Err(Refusal::Destination);
         }
         if self.body.taken >= 60_000 {
-            return Some(Refusal::PacketLimit);
+            return Err(Refusal::PacketLimit);
         }
         if self.body.queues.len(sizes.buffers - sizes.nodes + source) >= sizes.depth {
-            return Some(Refusal::Full);
+            return Err(Refusal::Full);
         }
-        None
+        Ok(())
     }
 
     // Takes a packet in that no question refuses.
@@ -103,13 +97,13 @@ impl<R: Routing, A: Arbiter> Fabric<R, A> {
     }
 
     // Is the feed open?
-    fn close_refusal(&self) -> Option<Refusal>
+    fn may_close(&self) -> Result<(), Refusal>
         ensures { Asked A.rule close_feed self.now result }
     {
-        match self.body.feed {
-            FeedState::Open => None,
-            _ => Some(Refusal::NotOpen),
+        if self.body.feed != FeedState::Open {
+            return Err(Refusal::NotOpen);
         }
+        Ok(())
     }
 
     // The feed of a fabric that was open is closed.

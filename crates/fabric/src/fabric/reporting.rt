@@ -5,7 +5,6 @@ ghost use Rattle.switch.specs.Calls.{inside, report_of};
 ghost use Rattle.fabric.specs.Fabrics.{network_in, state_of};
 
 use crate::fabric::Fabric;
-use crate::working::work_of;
 use arbiter::Arbiter;
 use network::Routing;
 use switch::Report;
@@ -18,12 +17,12 @@ impl<R: Routing, A: Arbiter> Fabric<R, A> {
         &self.routing
     }
 
-    // The work left.
+    // The work left. The sum is apart, so that this proves without a file.
     pub fn work(&self) -> usize
         ensures value { result ≡ work_left (network_in self.now) (state_of self.now).buffers }
         ensures small { result ≤ 532480 }
     {
-        work_of(&self.table, &self.body.queues, self.body.sizes)
+        self.total_work()
     }
 
     // How many packets are inside.
@@ -39,21 +38,12 @@ impl<R: Routing + Drop, A: Arbiter + Drop> Fabric<R, A> {
     pub fn report(self) -> Report
         ensures { result ≡ report_of (state_of self) }
     {
-        let inside = self.inside();
-        let Fabric {
-            routing: _,
-            arbiter: _,
-            table: _,
-            body,
-            standing: _,
-            scratch: _,
-        } = self;
         Report {
-            taken: body.taken,
-            delivered: body.delivered,
-            hops: body.hops,
-            cycles: body.cycles,
-            inside,
+            taken: self.body.taken,
+            delivered: self.body.delivered,
+            hops: self.body.hops,
+            cycles: self.body.cycles,
+            inside: self.inside(),
         }
     }
 }

@@ -1,14 +1,12 @@
 use Rattle.std.proofs.Common.{refl}
 use Rattle.switch.specs.declared.feed_state.FeedState.TheVariants.{Closed}
 use Rattle.switch.specs.Calls.Call.{close_feed}
-use Rattle.fabric.proofs.Calling.{sound, performed_state, answered_done, kept}
-use Rattle.fabric.proofs.Feeding.{refed}
+use Rattle.fabric.proofs.Calling.{answered_done}
+use Rattle.fabric.proofs.Feeding.{refed_reached}
 use Rattle.fabric.proofs.fabric.Fabric.mark_closed.Goals as goal
 
-pub invariant_of-self : goal.invariant_of-self
-invariant_of-self g c =
-    let f = c.args.self.now in
-    record { ready = kept f g.A.Arbiter.rule close_feed g.met.A.Arbiter.exists f.arbiter (refed Closed f.body) refl (sound f) (performed_state f g.A.Arbiter.rule close_feed c.requires.may _ refl); few = f.few }
+pub invariant_of-self-clause-reached : goal.invariant_of-self-clause-reached
+invariant_of-self-clause-reached g c = refed_reached c.args.self.now g.A.Arbiter.rule g.met.A.Arbiter.exists close_feed c.requires.may Closed refl
 
 pub returns : goal.returns
 returns g c = answered_done c.args.self.now g.A.Arbiter.rule close_feed c.requires.may _ refl refl refl refl refl

@@ -1,37 +1,57 @@
-use Rattle.std.proofs.Common.{length, refl, ap, arith}
-use Rattle.switch.specs.Calls.Answer.{number}
-use Rattle.switch.specs.Calls.Call.{cycle}
-use Rattle.cycle.specs.declared.sizes.Sizes.{Sizes}
-use Rattle.fabric.specs.Fabrics.{network_in}
-use Rattle.fabric.proofs.Calling.{performed_state, answered_number, kept}
-use Rattle.fabric.proofs.Cycling.{cycle_room, cycle_limit, turned_taken}
+use Rattle.std.proofs.Common.{length, refl, arith}
+use mir.Facts.{Fits-below}
+use Rattle.fabric.proofs.OneCycle.{turned_idle, can_move, hops_small, turned_by}
+use Rattle.fabric.proofs.Cycling.{cycle_room, turned_reached, turned_answer}
 use Rattle.fabric.proofs.fabric.Fabric.perform_cycle.Goals as goal
 
-pub turn-requires : goal.turn-requires
-turn-requires g c =
+pub invariant_of-self-clause-reached : goal.invariant_of-self-clause-reached
+invariant_of-self-clause-reached g c =
     let f = c.args.self.now in
-    let room = length c.args.trace.now in
-    record { ready = f.ready; room = cycle_room f room c.requires.may; few = cycle_limit f room c.requires.may; taken = f.few }
+    turned_reached f g.A.Arbiter.rule (length c.args.trace.now) c.requires.may _ _ _ _ _ (turned_idle f g.A.Arbiter.rule g.met.A.Arbiter.exists (omega arith) c.args.trace.now) g.met.A.Arbiter.exists
 
-pub invariant_of-self : goal.invariant_of-self
-invariant_of-self g c =
+pub returns-then-inside-eq0 : goal.returns-then-inside-eq0
+returns-then-inside-eq0 g c =
     let f = c.args.self.now in
-    let rule = g.A.Arbiter.rule in
-    let room = length c.args.trace.now in
-    let t = c.turn.ensures in
-    let e = turned_taken (network_in f) rule f.arbiter c.turn.new.arbiter f.body c.turn.new.body _ _ _ t in
+    let t = turned_idle f g.A.Arbiter.rule g.met.A.Arbiter.exists (omega arith) c.args.trace.now in
     record {
-      ready = kept f rule (cycle room) g.met.A.Arbiter.exists c.turn.new.arbiter c.turn.new.body t.sizes_is t.sound (performed_state f rule (cycle room) c.requires.may _ t.state_is);
-      few = omega (arith, f.few);
+      answered = turned_answer f g.A.Arbiter.rule (length c.args.trace.now) c.requires.may _ _ _ _ _ t _ refl refl refl refl;
+      traced = t.traced;
     }
+
+pub invariant_of-start : goal.invariant_of-start
+invariant_of-start g c = let f = c.args.self.now in record { stands = f.stands; sound = f.sound }
+
+pub decide-count-requires : goal.decide-count-requires
+decide-count-requires g c = record { room = cycle_room c.args.self.now (length c.args.trace.now) c.requires.may }
+
+pub move_all-delivered-requires : goal.move_all-delivered-requires
+move_all-delivered-requires g c =
+    let f = c.args.self.now in
+    record {
+      slotted = record { shallow = f.fits.shallow; slots = f.fits.slots; sound = f.sound };
+      movable = can_move f g.A.Arbiter.rule g.met.A.Arbiter.exists c.decide-count.new.arbiter c.args.trace.now c.decide-count.new.trace c.decide-count.result c.decide-count.ensures;
+    }
+
+pub overflow_add-self-3 : goal.overflow_add-self-3
+overflow_add-self-3 g c =
+    let f = c.args.self.now in
+    let small = hops_small f g.A.Arbiter.rule g.met.A.Arbiter.exists c.decide-count.new.arbiter c.args.trace.now c.decide-count.new.trace c.decide-count.result c.decide-count.ensures
+    c.move_all-delivered.new.queues c.move_all-delivered.result c.move_all-delivered.ensures in
+    Fits-below {n = 3900001} tt (omega (arith, f.few))
+
+pub invariant_of-self-2-clause-reached : goal.invariant_of-self-2-clause-reached
+invariant_of-self-2-clause-reached g c =
+    let f = c.args.self.now in
+    let t = turned_by f g.A.Arbiter.rule g.met.A.Arbiter.exists c.decide-count.new.arbiter c.args.trace.now c.decide-count.new.trace c.decide-count.result c.decide-count.ensures
+    c.move_all-delivered.new.queues c.move_all-delivered.result c.move_all-delivered.ensures in
+    turned_reached f g.A.Arbiter.rule (length c.args.trace.now) c.requires.may _ _ _ _ _ t g.met.A.Arbiter.exists
 
 pub returns : goal.returns
 returns g c =
     let f = c.args.self.now in
-    let t = c.turn.ensures in
+    let t = turned_by f g.A.Arbiter.rule g.met.A.Arbiter.exists c.decide-count.new.arbiter c.args.trace.now c.decide-count.new.trace c.decide-count.result c.decide-count.ensures
+    c.move_all-delivered.new.queues c.move_all-delivered.result c.move_all-delivered.ensures in
     record {
-      answered =
-          answered_number f g.A.Arbiter.rule (cycle (length c.args.trace.now)) c.requires.may _ _ (ap number t.traced.count_is) t.state_is refl refl
-          (ap (λ (x : Sizes). x.depth) t.sizes_is);
+      answered = turned_answer f g.A.Arbiter.rule (length c.args.trace.now) c.requires.may _ _ _ _ _ t _ refl refl refl refl;
       traced = t.traced;
     }

@@ -1,11 +1,12 @@
-use Rattle.std.proofs.Common.{refl, ap, arith}
+use Rattle.std.proofs.Common.{sym, refl, ap, subst, arith}
+use Rattle.queue.specs.Contents.{Sound}
 use mir.Facts.{Fits-below}
 use Rattle.switch.specs.Calls.Answer.{number}
 use Rattle.switch.specs.Calls.Call.{inject}
 use Rattle.cycle.specs.declared.sizes.Sizes.{Sizes}
 use Rattle.fabric.specs.Fabrics.{network_in}
 use Rattle.cycle.proofs.Fitting.{buffers_few}
-use Rattle.fabric.proofs.Calling.{fits, sound, performed_state, answered_number, kept}
+use Rattle.fabric.proofs.Calling.{performed_state, answered_number, kept}
 use Rattle.fabric.proofs.Injecting.{nodes_are, nodes_few, nodes_within, buffer_under, slots_under, injectable, injected_state}
 use Rattle.fabric.proofs.fabric.Fabric.take_in.Goals as goal
 
@@ -16,7 +17,7 @@ pub overflow_add-b : goal.overflow_add-b
 overflow_add-b g c =
     let f = c.args.self.now in
     let q = injectable f c.args.source c.args.destination c.requires.may in
-    Fits-below {n = 2048} tt (let b = buffers_few (network_in f) f.body.sizes (fits f) in let u = buffer_under f c.args.source q.source_in in omega arith)
+    Fits-below {n = 2048} tt (let b = buffers_few (network_in f) f.body.sizes f.fits in let u = buffer_under f c.args.source q.source_in in omega arith)
 
 pub overflow_cast-source : goal.overflow_cast-source
 overflow_cast-source g c =
@@ -34,19 +35,26 @@ pub take_in-requires : goal.take_in-requires
 take_in-requires g c =
     let f = c.args.self.now in
     let q = injectable f c.args.source c.args.destination c.requires.may in
-    record { shallow = (fits f).shallow; in_range = slots_under f c.args.source q.source_in; sound = sound f; room = q.room; few = q.under_limit }
+    record { shallow = f.fits.shallow; in_range = slots_under f c.args.source q.source_in; sound = f.sound; room = q.room; few = q.under_limit }
 
-pub invariant_of-self : goal.invariant_of-self
-invariant_of-self g c =
+pub invariant_of-self-clause-reached : goal.invariant_of-self-clause-reached
+invariant_of-self-clause-reached g c =
     let f = c.args.self.now in
     let q = injectable f c.args.source c.args.destination c.requires.may in
     let t = c.take_in.ensures.after in
     let new = c.take_in.new.self in
-    record {
-      ready = kept f g.A.Arbiter.rule (inject c.args.source c.args.destination) g.met.A.Arbiter.exists f.arbiter new t.sizes_is t.sound
-          (performed_state f g.A.Arbiter.rule (inject c.args.source c.args.destination) c.requires.may _ (injected_state f c.args.source c.args.destination q.source_in new t));
-      few = omega (arith, t.taken_is, q.under_limit);
-    }
+    kept f g.A.Arbiter.rule (inject c.args.source c.args.destination) g.met.A.Arbiter.exists f.arbiter new t.sizes_is
+    (performed_state f g.A.Arbiter.rule (inject c.args.source c.args.destination) c.requires.may _ (injected_state f c.args.source c.args.destination q.source_in new t))
+
+pub invariant_of-self-clause-sound : goal.invariant_of-self-clause-sound
+invariant_of-self-clause-sound g c =
+    let t = c.take_in.ensures.after in
+    subst (λ (x : Sizes). Sound c.take_in.new.self.queues x.depth) (sym t.sizes_is) t.sound
+
+pub invariant_of-self-clause-few : goal.invariant_of-self-clause-few
+invariant_of-self-clause-few g c =
+    let q = injectable c.args.self.now c.args.source c.args.destination c.requires.may in
+    omega (arith, c.take_in.ensures.after.taken_is, q.under_limit)
 
 pub returns : goal.returns
 returns g c =

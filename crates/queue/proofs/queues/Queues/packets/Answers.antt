@@ -1,0 +1,10 @@
+-- The buffer has a record.
+use Rattle.std.proofs.Common.{rules}
+use Rattle.queue.proofs.Frames.{has_record}
+use Rattle.queue.proofs.queues.Queues.packets.Goals as goal
+
+pub offset_bounds-self-b : goal.offset_bounds-self-b
+offset_bounds-self-b c = let below = has_record c.args.self.now c.args.depth c.args.b c.requires.sound c.requires.in_range in search rules
+
+pub bounds-self-b : goal.bounds-self-b
+bounds-self-b c = has_record c.args.self.now c.args.depth c.args.b c.requires.sound c.requires.in_range
