@@ -11,15 +11,7 @@ use Rattle.fabric.proofs.Calling.{asked, performed_state, kept}
 
 -- The body with another state of its feed.
 abbrev pub refed : FeedState → Body → Body
-refed x body = record {
-  sizes = body.sizes;
-  queues = body.queues;
-  taken = body.taken;
-  delivered = body.delivered;
-  hops = body.hops;
-  cycles = body.cycles;
-  feed = x;
-}
+refed x body = record body { feed = x }
 
 -- A performed call that changes the feed alone keeps the invariant.
 pub refed_reached : {R A : Type 0} (f : Fabric R A) (rule : Rule A) → Exists rule → (c : Call) → asked f c ≡ None → (x : FeedState)

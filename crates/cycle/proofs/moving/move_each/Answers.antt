@@ -7,15 +7,6 @@ use Rattle.cycle.specs.Moves.{AllMovable}
 use Rattle.cycle.proofs.Moves.{moves_more, movable_more, moves_none}
 use Rattle.cycle.proofs.moving.move_each.Goals as goal
 
-pub move_packet-requires : goal.move_packet-requires
-move_packet-requires c =
-    let sizes = c.args.sizes in
-    let m = movable_more sizes (buffers_in sizes c.loop-grant.queues) c.args.grants.now c.loop-grant.grant-index c.loop-grant-test.true c.loop-grant.invariant.movable in
-    record {
-      slotted = record { shallow = c.requires.slotted.shallow; slots = c.requires.slotted.slots; sound = c.loop-grant.invariant.sound };
-      movable = m.0;
-    }
-
 pub loop-grant-preserved : goal.loop-grant-preserved
 loop-grant-preserved c =
     let sizes = c.args.sizes in

@@ -1,27 +1,11 @@
 -- The answers of move_packet. Assumes nothing.
 use Rattle.std.proofs.Common.{rules}
-use Rattle.cycle.proofs.Moves.{slots_in_range, moved_none, moved_out, moved_on, first_hops, new_under, room_left}
+use Rattle.cycle.proofs.Moves.{moved_none, moved_out, moved_on, first_hops, room_left}
 use Rattle.cycle.proofs.moving.move_packet.Goals as goal
-
-pub pop-requires : goal.pop-requires
-pop-requires c = record {
-  shallow = c.requires.slotted.shallow;
-  in_range = slots_in_range c.args.grant.old c.args.sizes.buffers c.args.sizes.depth 2048 c.requires.movable.old_under c.requires.slotted.slots;
-  sound = c.requires.slotted.sound;
-}
 
 pub hopped-requires : goal.hopped-requires
 hopped-requires c =
     first_hops c.args.sizes c.args.queues.now c.pop.new.self c.args.grant c.requires.movable c.in-Some.packet c.in-Some.ensures
-
-pub push-requires : goal.push-requires
-push-requires c =
-    let u = new_under c.args.sizes c.args.queues.now c.pop.new.self c.args.grant c.requires.movable c.in-Some.packet c.in-Some.ensures c.if-grant-sizes.true in
-    record {
-      shallow = c.requires.slotted.shallow;
-      in_range = slots_in_range c.args.grant.new c.args.sizes.buffers c.args.sizes.depth 2048 u c.requires.slotted.slots;
-      sound = c.pop.ensures.sound;
-    }
 
 pub unwrap-requires : goal.unwrap-requires
 unwrap-requires c =

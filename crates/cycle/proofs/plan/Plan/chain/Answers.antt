@@ -18,15 +18,6 @@ bounds-standing-n g c =
     let routing = c.args.self.now.routing.now in
     at_small_node (g.R.Routing.meaning routing) c.args.self.now.sizes c.args.self.now.fits (c.loop-b.b - 1) (g.met.R.Routing.lawful routing) c.in-Some.n c.in-Some.ensures (omega arith)
 
-pub offset_bounds-standing-b : goal.offset_bounds-standing-b
-offset_bounds-standing-b g c = Fits-below {n = 8192} tt (omega (arith, buffers_few (g.R.Routing.meaning c.args.self.now.routing.now) c.args.self.now.sizes c.args.self.now.fits))
-
-pub bounds-standing-b : goal.bounds-standing-b
-bounds-standing-b g c = omega (arith, buffers_few (g.R.Routing.meaning c.args.self.now.routing.now) c.args.self.now.sizes c.args.self.now.fits)
-
-pub overflow_cast-b : goal.overflow_cast-b
-overflow_cast-b g c = Fits-below {n = 2048} tt (omega (arith, buffers_few (g.R.Routing.meaning c.args.self.now.routing.now) c.args.self.now.sizes c.args.self.now.fits))
-
 pub loop-b-preserved-in-Some : goal.loop-b-preserved-in-Some
 loop-b-preserved-in-Some g c =
     let routing = c.args.self.now.routing.now in
@@ -49,8 +40,3 @@ loop-b-preserved g c =
     let e : c.loop-b.b ≡ suc (c.loop-b.b - 1) = omega arith in
     let old = subst (λ (x : ℕ). ChainedFrom net c.loop-b.standing x) e c.loop-b.invariant in
     chained_nowhere net c.loop-b.standing (c.loop-b.b - 1) old c.in_default.ensures
-
-pub returns : goal.returns
-returns g c =
-    let e : c.loop-b.b ≡ 0 = omega arith in
-    subst (λ (x : ℕ). ChainedFrom (g.R.Routing.meaning c.args.self.now.routing.now) c.loop-b.standing x) e c.loop-b.invariant

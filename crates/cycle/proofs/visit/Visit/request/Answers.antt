@@ -1,6 +1,5 @@
 -- What the first packet of the buffer asks for, unless the buffer has a grant.
-use Rattle.std.proofs.Common.{Some, None, sym, ◌∙◌, arith}
-use Rattle.queue.proofs.Frames.{run_below}
+use Rattle.std.proofs.Common.{Some, None, sym, ◌∙◌}
 use Rattle.cycle.specs.Measures.{visit_of}
 use Rattle.cycle.specs.Starts.{snapshot}
 use Rattle.cycle.proofs.Lookups.{front_is}
@@ -11,14 +10,6 @@ pub returns-then-self-b : goal.returns-then-self-b
 returns-then-self-b g c =
     let visit = c.args.self.now in
     sym (request_granted (snapshot visit.start.now) visit.granted.now (visit_of visit.node visit.port) c.args.b c.if-self-b.true)
-
-pub front-requires : goal.front-requires
-front-requires g c =
-    let start = c.args.self.now.start.now in
-    record {
-      in_range = omega (arith, run_below c.args.b start.plan.now.sizes.buffers start.plan.now.sizes.depth c.requires.buffer, start.plan.now.fits.slots);
-      sound = start.sound;
-    }
 
 pub returns-in_err-packet : goal.returns-in_err-packet
 returns-in_err-packet g c =

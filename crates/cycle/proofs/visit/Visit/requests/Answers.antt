@@ -4,7 +4,7 @@ use Rattle.switch.specs.Places.{buffer_count}
 use Rattle.cycle.specs.Measures.{visit_of}
 use Rattle.cycle.specs.Chains.{FirstFrom}
 use Rattle.cycle.specs.Starts.{network_in, snapshot}
-use Rattle.cycle.proofs.Scanning.{Found, found_start, found_none, found_some, found_end, below_falls}
+use Rattle.cycle.proofs.Scanning.{Found, found_start, found_none, found_some, below_falls}
 use Rattle.cycle.proofs.visit.Visit.requests.Goals as goal
 use Rattle.cycle.proofs.visit.Visit.requests.Goals.{in-Some-request, in_default-request}
 
@@ -46,8 +46,3 @@ loop-next-preserved g c =
           simp w.entries-is
           (found_none (snapshot start) visit.granted.now v c.loop-next.entries.items b c.loop-next.next o c.in-Some.is next found w.in_default-request.ensures)
     ]
-
-pub returns : goal.returns
-returns g c =
-    let visit = c.args.self.now in
-    found_end (snapshot visit.start.now) visit.granted.now (visit_of visit.node visit.port) c.loop-next.entries.items c.loop-next.next c.in_default.is c.loop-next.invariant

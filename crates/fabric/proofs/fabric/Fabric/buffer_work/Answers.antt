@@ -1,7 +1,7 @@
--- The work of the packets of one buffer is small.
+-- The work of the packets of one buffer is the sum over what the buffer holds, and small.
 use Rattle.std.proofs.Common.{◌^◌, rules, arith}
 use Rattle.std.proofs.lemmas.Iterator.{YieldsList-from_map}
-use Rattle.std.proofs.lemmas.Iterator.Consumers.{YieldsList-at, YieldsList-from_first, fits_by_from_yields_list}
+use Rattle.std.proofs.lemmas.Iterator.Consumers.{YieldsList-at, YieldsList-from_first, sum_by_from_yields_List, fits_by_from_yields_list}
 use Rattle.queue.specs.declared.packet.Packet.{Packet}
 use Rattle.queue.specs.Contents.{contents}
 use Rattle.queue.specs.Left.{packets_left}
@@ -21,3 +21,13 @@ sum-requires-clause-fits g c =
     (YieldsList-at c.map.ensures.source (YieldsList-from_first (λ (x : Packet). x) packets_left xs c.packets.ensures))
     c.map.ensures.closure (λ x r q k. search rules))
     (omega arith)
+
+pub returns : goal.returns
+returns g c =
+    let f = c.args.self.now in
+    let work = packet_work (network_in f) c.args.b in
+    let xs = contents f.body.queues (depth_in f) c.args.b in
+    sum_by_from_yields_List work xs c.map.result c.sum.result c.sum.ensures.ran
+    (YieldsList-from_map _ work
+    (YieldsList-at c.map.ensures.source (YieldsList-from_first (λ (x : Packet). x) packets_left xs c.packets.ensures))
+    c.map.ensures.closure (λ x r q k. search rules))

@@ -1,7 +1,7 @@
 use Rattle.std.proofs.Common.{length, refl, arith}
 use mir.Facts.{Fits-below}
 use Rattle.fabric.proofs.OneCycle.{turned_idle, can_move, hops_small, turned_by}
-use Rattle.fabric.proofs.Cycling.{cycle_room, turned_reached, turned_answer}
+use Rattle.fabric.proofs.Cycling.{turned_reached, turned_answer}
 use Rattle.fabric.proofs.fabric.Fabric.perform_cycle.Goals as goal
 
 pub invariant_of-self-clause-reached : goal.invariant_of-self-clause-reached
@@ -17,12 +17,6 @@ returns-then-inside-eq0 g c =
       answered = turned_answer f g.A.Arbiter.rule (length c.args.trace.now) c.requires.may _ _ _ _ _ t _ refl refl refl refl;
       traced = t.traced;
     }
-
-pub invariant_of-start : goal.invariant_of-start
-invariant_of-start g c = let f = c.args.self.now in record { stands = f.stands; sound = f.sound }
-
-pub decide-count-requires : goal.decide-count-requires
-decide-count-requires g c = record { room = cycle_room c.args.self.now (length c.args.trace.now) c.requires.may }
 
 pub move_all-delivered-requires : goal.move_all-delivered-requires
 move_all-delivered-requires g c =

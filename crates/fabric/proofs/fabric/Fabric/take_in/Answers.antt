@@ -4,20 +4,12 @@ use mir.Facts.{Fits-below}
 use Rattle.switch.specs.Calls.Answer.{number}
 use Rattle.switch.specs.Calls.Call.{inject}
 use Rattle.cycle.specs.declared.sizes.Sizes.{Sizes}
-use Rattle.fabric.specs.Fabrics.{network_in}
-use Rattle.cycle.proofs.Fitting.{buffers_few}
 use Rattle.fabric.proofs.Calling.{performed_state, answered_number, kept}
-use Rattle.fabric.proofs.Injecting.{nodes_are, nodes_few, nodes_within, buffer_under, slots_under, injectable, injected_state}
+use Rattle.fabric.proofs.Injecting.{nodes_are, nodes_few, nodes_within, slots_under, injectable, injected_state}
 use Rattle.fabric.proofs.fabric.Fabric.take_in.Goals as goal
 
 pub overflow_sub-b : goal.overflow_sub-b
 overflow_sub-b g c = nodes_within c.args.self.now
-
-pub overflow_add-b : goal.overflow_add-b
-overflow_add-b g c =
-    let f = c.args.self.now in
-    let q = injectable f c.args.source c.args.destination c.requires.may in
-    Fits-below {n = 2048} tt (let b = buffers_few (network_in f) f.body.sizes f.fits in let u = buffer_under f c.args.source q.source_in in omega arith)
 
 pub overflow_cast-source : goal.overflow_cast-source
 overflow_cast-source g c =
