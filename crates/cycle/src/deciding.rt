@@ -77,7 +77,7 @@ impl<'a, 'b, R: Routing> Start<'a, 'b, R> {
     }
 
     // The same, with marks for the buffers that have a grant, and room for the requests of a visit. A function of its own,
-    // since a part of a field is not lent beside another field.
+    // since a part of a field is not lent beside another field (tried).
     fn visit_all<A: Arbiter>(
         &self,
         arbiter: &mut A,

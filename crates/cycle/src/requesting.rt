@@ -13,7 +13,8 @@ use queue::Packet;
 use switch::Grant;
 
 impl<'a, 'b, R: Routing> Start<'a, 'b, R> {
-    // Whether the buffer `b` has room. That `b` is one of the plan's stands in clauses, since a number alone does not keep it.
+    // Whether the buffer `b` has room. That `b` is one of the plan's stands in clauses, here and in three functions more: a
+    // type for such a number would be no plainer.
     fn has_room(&self, b: usize) -> bool
         requires { b < self.now.plan.now.sizes.buffers }
         ensures { result ≡ has_room (snapshot self.now) b }

@@ -7,6 +7,7 @@ use std::fmt;
 #[derive(Clone, Copy, Debug, PartialEq, Eq)]
 pub struct Full;
 
+// By hand, since a derived one has no contract, and this one promises the text.
 impl fmt::Display for Full {
     ghost output = { λ _. Some (codes "the buffer has no room") };
 

@@ -26,7 +26,7 @@ pub fn number(word: &str) -> Option<usize>
 pub fn command_of(name: ShapeName, numbers: &[usize]) -> Option<Command>
     ensures { result ≡ as_command name numbers.now }
 {
-    // `ShapeName::shape` takes two sizes, and a line and a ring leave the second out.
+    // `ShapeName::shape` takes two sizes, and a line and a ring leave the second out: a public function keeps its signature.
     let (a, b, start, end) = match (name.sizes(), numbers) {
         (1, &[a, start, end]) => (a, 0, start, end),
         (2, &[a, b, start, end]) => (a, b, start, end),

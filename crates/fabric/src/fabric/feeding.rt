@@ -45,7 +45,8 @@ impl<R: Routing, A: Arbiter> Fabric<R, A> {
         Ok(())
     }
 
-    // Was the feed not opened before? Each question speaks of its own call of the definition, and so do the marks below.
+    // Was the feed not opened before? Each question speaks of its own call of the definition, and so do the marks below: one
+    // function for two would have a contract by cases, and be no plainer.
     fn may_open(&self) -> Result<(), Refusal>
         ensures { Asked A.rule open_feed self.now result }
     {

@@ -42,7 +42,8 @@ fn same_before(bytes: &[u8], second: usize) -> Option<usize>
         .position(|before| *before == bytes[second])
 }
 
-// No position stands twice. A loop over the second label, since the answer is both.
+// No position stands twice. A loop over the second label, since the answer is both; one nested search was tried, and proved
+// only at the full limits of the search.
 fn check_once(bytes: &[u8]) -> Result<(), LabellingRefusal>
     requires counted { Counted bytes.now }
     requires within { Within bytes.now }

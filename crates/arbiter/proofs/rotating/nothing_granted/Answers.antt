@@ -1,3 +1,4 @@
+-- Without this a goal stays open (tried).
 use Rattle.std.proofs.Common.{None, refl}
 use Rattle.arbiter.specs.Rotation.{replicate_at}
 use Rattle.arbiter.specs.Proper.{link_limit}

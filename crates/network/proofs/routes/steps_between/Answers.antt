@@ -1,3 +1,4 @@
+-- Without these a goal stays open (tried).
 use Rattle.std.proofs.Common.{◌≡◌, [], ◌∷◌, ◌++◌, Some, None, vec_items, sym, subst, append_assoc, append-nil, rules}
 use Rattle.std.specs.Option.{option_map}
 use Rattle.network.specs.Routes.{step_by, Following}

@@ -1,3 +1,4 @@
+-- What the loop keeps, which the check asks for.
 use Rattle.std.proofs.Common.{ℕ, List, ◌++◌, vec_items}
 use Rattle.network.specs.declared.route_step.RouteStep.{RouteStep}
 use Rattle.network.specs.Routes.{Following}

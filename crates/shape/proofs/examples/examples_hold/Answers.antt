@@ -1,3 +1,4 @@
+-- It carries the theorem.
 use Rattle.shape.proofs.ExamplesHold.{all_hold}
 use Rattle.shape.proofs.examples.examples_hold.Goals as goal
 

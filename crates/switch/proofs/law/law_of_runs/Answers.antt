@@ -1,3 +1,4 @@
+-- It carries the theorem.
 use Rattle.switch.proofs.LawHolds.{switch_law}
 use Rattle.switch.proofs.law.law_of_runs.Goals as goal
 

@@ -1,3 +1,4 @@
+-- Without these a goal stays open (tried).
 use Rattle.std.proofs.Common.{◌≡◌, min, max, sym, arith}
 use Rattle.tree.specs.Trees.{parent, tree_distance}
 use Rattle.tree.specs.TreeFacts.{distance_same, distance_step}

@@ -1,3 +1,4 @@
+-- What falls, which the check asks for.
 use Rattle.std.proofs.Common.{◌+◌}
 use Rattle.tree.proofs.nodes.+hops_between.Given as goal
 

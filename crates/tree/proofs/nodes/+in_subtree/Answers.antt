@@ -1,3 +1,4 @@
+-- Without these a goal stays open (tried).
 use Rattle.std.proofs.Common.{sym, ◌∙◌, arith}
 use Rattle.std.proofs.lemmas.Bool.{eq-eqb, le-ltb}
 use Rattle.tree.specs.TreeFacts.{subtree_same, subtree_none, subtree_more}

@@ -1,4 +1,4 @@
--- The buffer has a record.
+-- The buffer has a record. By hand, since the check does not find it by the lemma in the attribute (tried).
 use Rattle.std.proofs.Common.{rules}
 use Rattle.queue.proofs.Frames.{has_record}
 use Rattle.queue.proofs.queues.Queues.packets.Goals as goal
