@@ -1,5 +1,5 @@
 // Which lists an arbiter answers.
-ghost use Rattle.std.specs.Prelude.{◌≡◌, nat_lt, Decides};
+ghost use Rattle.std.specs.Prelude.{◌≡◌, ◌&&◌, nat_lt, Decides};
 ghost use Rattle.arbiter.specs.Proper.{Proper, Ordered, buffer_limit};
 
 use crate::Entry;
@@ -18,18 +18,19 @@ pub fn is_proper(link: usize, entries: &[Entry]) -> bool
     link < LINKS && !entries.is_empty() && entries.len() <= BUFFERS && is_ordered(entries)
 }
 
-// Whether the buffer numbers rise strictly and are in range. They are in range where the last is, which is the highest.
+// Whether the buffer numbers rise strictly and are in range. It ends at the first pair that does not rise or is out of range;
+// the last is asked apart, since a list of one has no pair.
 fn is_ordered(entries: &[Entry]) -> bool
     ensures { Decides result (Ordered entries.now) }
 {
-    entries.is_sorted_by(is_below) && entries.last().is_none_or(is_in_range)
+    entries.is_sorted_by(may_follow) && entries.last().is_none_or(is_in_range)
 }
 
-// Whether an entry's buffer is below that of the next.
-fn is_below(entry: &Entry, next: &Entry) -> bool
-    ensures { result ≡ nat_lt entry.now.buffer next.now.buffer }
+// Whether the next entry's buffer is above this one's, and in range.
+fn may_follow(entry: &Entry, next: &Entry) -> bool
+    ensures { result ≡ (nat_lt entry.now.buffer next.now.buffer && nat_lt next.now.buffer buffer_limit) }
 {
-    entry.buffer < next.buffer
+    entry.buffer < next.buffer && next.buffer < BUFFERS
 }
 
 // Whether an entry's buffer number is one that a buffer can have.

@@ -6,8 +6,8 @@ ghost use Rattle.cycle.specs.Measures.{visit_of};
 ghost use Rattle.cycle.specs.Starts.{network_in, snapshot, visit_in, requests_in};
 ghost use Rattle.cycle.specs.Decided.{Decided};
 
-use crate::Start;
 use crate::visit::Visit;
+use crate::{Plan, Start};
 use arbiter::{Arbiter, Entry};
 use arrayvec::ArrayVec;
 use network::Routing;
@@ -73,7 +73,18 @@ impl<'a, 'b, R: Routing> Start<'a, 'b, R> {
         requires room { self.now.plan.now.sizes.nodes * (self.now.plan.now.sizes.ports + 1) ≤ length trace.old }
         ensures { Decided (snapshot self.now) A.rule arbiter.old arbiter.new trace.old trace.new result }
     {
-        self.visit_all(arbiter, &mut scratch.granted, &mut scratch.entries, trace)
+        // Copies, which the visits read faster than what is lent twice.
+        let plan = Plan {
+            routing: self.plan.routing,
+            sizes: self.plan.sizes,
+        };
+        let start = Start {
+            plan: &plan,
+            standing: self.standing,
+            queues: self.queues,
+            cycle: self.cycle,
+        };
+        start.visit_all(arbiter, &mut scratch.granted, &mut scratch.entries, trace)
     }
 
     // The same, with marks for the buffers that have a grant, and room for the requests of a visit. A function of its own,

@@ -109,20 +109,21 @@ impl<'a, 'b, 'c, R: Routing> Visit<'a, 'b, 'c, R> {
         Some(self.start.granting(packet, b, new))
     }
 
-    // The entries of all buffers that request the port, in rising order.
+    // The entries of all buffers that request the port, in rising order. The next buffer of the chain is read before this one is
+    // asked, so that the processor need not wait for it.
     pub fn requests(&self, entries: &mut ArrayVec<Entry, 2048>)
         ensures { entries.new.items ≡ map entry_of (requests_in self.now) }
     {
         entries.clear();
         let mut next = self.start.standing.first_at(self.node);
         while let Some(b) = next {
+            next = self.start.standing.next_after(b);
             if let Some(grant) = self.request(b) {
                 entries.push(Entry {
                     buffer: grant.old,
                     packet: grant.packet,
                 });
             }
-            next = self.start.standing.next_after(b);
         }
     }
 }

@@ -46,6 +46,7 @@ impl Routing for Tree {
 
     // The four numbers are kept as plain `if`s, since `then_some(..).unwrap_or(0)` says the same at more length, and works
     // out the number first, which would overflow at a height that is not usable.
+    #[tactic(auto, using(crate::specs::TreeLaws::nodes_shifted))]
     fn nodes(&self) -> usize {
         if self.is_usable() {
             (2 << self.height) - 1
